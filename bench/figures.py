@@ -36,6 +36,10 @@ class Figures:
         if figure is None:
             del figures[program]
 
+    def clear(self, section, row):
+        """Takes a row's figures away."""
+        self.keep(section, row).clear()
+
     def write(self):
         """Writes the file, a line for each row."""
         sections = []

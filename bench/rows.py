@@ -41,7 +41,7 @@ APART = ('`DateTime::from_timespec`, fixed offset', '`DateTime::find_n`, fixed o
 
 
 # Calls that make a function which another call makes too, so that the compiler would keep it out of line for both: a program of its own makes them.
-APART_CALLS = ('meaning', 'kept_segment', 'parse')
+APART_CALLS = ('meaning', 'kept_segment', 'parse', 'find_local_time_type')
 
 
 # Calls over whole columns, which the bindings alone have, and the call of tz whose answers those of each place are, if there is one.
@@ -67,8 +67,23 @@ BEHIND = {
     '`TimeZone::from_posix_tz`, TZ string': 'c',
     '`TimeZoneSettings` without directories, TZ string': 'd', '`AlternateTime::new`, TZ string': 'd', '`AlternateTime::new`, days that meet': 'd',
     '`TimeZone::from_tz_data`, 100000 transitions': 'e',
-    'time of `DateTime::find`, random, Paris': 'b', 'time of `DateTime::find_n`, random, Paris': 'a', 'time of `DateTime::find_n`, at jumps, Paris': 'a',
+    'time of `DateTime::find`, random, Paris': 'b',
+    'time of `DateTime::find_n`, at jumps, Paris': 'a',
     'time of `DateTime::find_n`, random, 100000 transitions': 'a',
+}
+
+
+# What the column of each program measures. A run keeps with its figures what they were built as.
+DRIVEN = 'called by a driver of {cxx}, `-O2`'
+BUILDS = {
+    'tz': 'the proved build, by {kit} for x86-64-v2',
+    'through-C': f'the proved build as the library of `bindings/c`, {DRIVEN}',
+    'through-Rust': 'the generated crate of `bindings/rust`, by {rustc} with `lto`',
+    'tz-rs': 'by {rustc} with `lto`',
+    **dict.fromkeys(('glibc', 'Abseil', 'cctz', 'date'), f'Debian\'s library, {DRIVEN}'),
+    'chrono-tz': 'by {rustc} with `lto` and one codegen unit',
+    'Go': 'by its own compiler',
+    'jiff': 'the port in the kit, by {kit} for x86-64-v2',
 }
 
 
@@ -94,7 +109,6 @@ class Calls(NamedTuple):
     call: str
     zone: Zone
     words: list
-    is_timed: bool
     is_long: bool
 
 
@@ -106,9 +120,15 @@ class Zones:
         lines.file_of_many_transitions(many)
         lines.file_of_string(string, STRING)
         paris, leaps = ZONEINFO + 'Europe/Paris', ZONEINFO + 'right/Europe/Paris'
+        new_york, kolkata = ZONEINFO + 'America/New_York', ZONEINFO + 'Asia/Kolkata'
         rule = lines.jumps_of_string(STRING, LAST + 1, 3000)
         self.fixed = Zone('fixed offset', ['-o', '3600'], '', [])
         self.paris = Zone('Paris', ['-f', paris], paris, lines.jumps_of_file(paris) + rule, LAST)
+        jumps = lines.jumps_of_file(new_york)
+        self.new_york = Zone('New York', ['-f', new_york], new_york, jumps, LAST)
+        # Its offset is the same since 1945.
+        jumps = lines.jumps_of_file(kolkata)
+        self.kolkata = Zone('Kolkata', ['-f', kolkata], kolkata, jumps)
         self.string = Zone('TZ string', ['-z', STRING], string, lines.jumps_of_string(STRING, 1900, 3000))
         self.many = Zone('100000 transitions', ['-f', many], many, lines.jumps_of_file(many))
         # The clock of its leap seconds jumps at the same instants.
@@ -160,11 +180,12 @@ def reading_of(word):
     return calendar.timegm((int(text[:-10]), *(int(text[at:at + 2]) for at in range(len(text) - 10, len(text), 2)), 0, 0, 0))
 
 
-def words(how, zone, count, seed):
-    """The words of a row: the same for two calls of the same kind over the same zone."""
+def words(how, zone, count, seed, years=None):
+    """The words of a row: the same for two calls of the same kind over the same zone and years."""
     rng = lines.generator(f'{seed} {how} {zone.name}')
     # Within the tables, where these have no rule after them.
-    within = {'100000 transitions': (2016, 2024), 'leap seconds': (FIRST, zone.end - 1)}.get(zone.name)
+    limits = {'100000 transitions': (2016, 2024), 'leap seconds': (FIRST, zone.end - 1)}
+    within = years or limits.get(zone.name)
     rows = {
         'instants': lambda: lines.random_instants(rng, count, *(within or (1902, LAST))),
         'instants of local years': lambda: lines.random_instants(rng, count, FIRST, LAST),
@@ -184,25 +205,25 @@ def calls(zones, count, seed=SEED):
     """The rows of calls."""
     fixed, paris, text, many, leaps = zones.fixed, zones.paris, zones.string, zones.many, zones.leaps
 
-    def row(name, call, zone, how, timed=False, long=False):
-        return Calls(name, call, zone, words(how, zone, count, seed), timed, long)
+    def row(name, call, zone, how, long=False):
+        return Calls(name, call, zone, words(how, zone, count, seed), long)
 
     yield row('`DateTime::from_timespec`, fixed offset', 'from_timespec', fixed, 'instants')
-    yield row('`DateTime::from_timespec`, random, Paris', 'from_timespec', paris, 'instants', timed=True)
-    yield row('`DateTime::from_timespec`, sorted, Paris', 'from_timespec', paris, 'sorted instants', timed=True)
+    yield row('`DateTime::from_timespec`, random, Paris', 'from_timespec', paris, 'instants')
+    yield row('`DateTime::from_timespec`, sorted, Paris', 'from_timespec', paris, 'sorted instants')
     yield row('`DateTime::from_timespec`, past the table, Paris', 'from_timespec', paris, 'far instants')
-    yield row('`DateTime::from_timespec`, random, TZ string', 'from_timespec', text, 'instants', timed=True)
+    yield row('`DateTime::from_timespec`, random, TZ string', 'from_timespec', text, 'instants')
     yield row('`DateTime::from_timespec`, 100000 transitions', 'from_timespec', many, 'instants')
     yield row('`DateTime::from_timespec`, leap seconds', 'from_timespec', leaps, 'instants')
     for call in ('find', 'find_n'):
         shown = f'`DateTime::{call}`'
         yield row(f'{shown}, fixed offset', call, fixed, 'local times')
-        yield row(f'{shown}, random, Paris', call, paris, 'local times', timed=True)
-        yield row(f'{shown}, at jumps, Paris', call, paris, 'local times at jumps', timed=call == 'find_n')
+        yield row(f'{shown}, random, Paris', call, paris, 'local times')
+        yield row(f'{shown}, at jumps, Paris', call, paris, 'local times at jumps')
         yield row(f'{shown}, past the table, Paris', call, paris, 'far local times')
-        yield row(f'{shown}, random, TZ string', call, text, 'local times', timed=call == 'find_n')
+        yield row(f'{shown}, random, TZ string', call, text, 'local times')
         yield row(f'{shown}, at jumps, TZ string', call, text, 'local times at jumps')
-        yield row(f'{shown}, random, 100000 transitions', call, many, 'local times', timed=call == 'find_n')
+        yield row(f'{shown}, random, 100000 transitions', call, many, 'local times')
     yield row('`DateTime::find`, weekly, Paris', 'find', paris, 'weekly local times')
     yield row('`DateTime::find`, leap seconds', 'find', leaps, 'local times')
     yield row('`DateTime::find`, at jumps, leap seconds', 'find', leaps, 'local times at jumps')
@@ -229,7 +250,7 @@ def calls(zones, count, seed=SEED):
     yield row('`DateTime` by a kept `Segment`, sorted, Paris', 'kept_segment', paris, 'sorted instants')
     yield row('next of `changes_after`, 1900 to 2100, Paris', 'walk', paris, 'instants')
     yield row('next of `changes_before`, 2100 to 1900, Paris', 'walk_back', paris, 'instants')
-    yield row('`Display` into a new string, Paris', 'display', paris, 'instants of local years', timed=True)
+    yield row('`Display` into a new string, Paris', 'display', paris, 'instants of local years')
     yield row('`ParsedDateTime::parse` and `unix_time`, Paris', 'parse', paris, 'instants of local years')
     yield row('`UtcDateTime::from_timespec`', 'utc_from_timespec', fixed, 'instants')
     yield row('`UtcDateTime::new` and `unix_time`', 'utc_new', fixed, 'local times')
@@ -242,6 +263,37 @@ def calls(zones, count, seed=SEED):
     yield row('`TzString::from_rule`, TZ string', 'from_rule', text, 'instants')
     yield row('`AlternateTime::new`, TZ string', 'rule', text, 'instants', long=True)
     yield row('`AlternateTime::new`, days that meet', 'rule', zones.meeting, 'instants', long=True)
+
+
+# The years of the instants and local times that calls are timed with: the present one, those of
+# logs, and those of most zones' tables.
+TIMED_YEARS = {'2026': (2026, 2026), '2015 to 2035': (2015, 2035), '1902 to 2037': (1902, LAST)}
+TIMED_CALLS = {
+    'find_local_time_type': '`TimeZoneRef::find_local_time_type`',
+    'from_timespec': '`DateTime::from_timespec`',
+    'find_n': '`DateTime::find_n`',
+}
+
+
+def timed_calls(zones, count, seed=SEED):
+    """The rows of calls that are timed."""
+    paris, many = zones.paris, zones.many
+
+    def row(name, call, zone, how, years=None):
+        return Calls(name, call, zone, words(how, zone, count, seed, years), False)
+
+    for call, shown in TIMED_CALLS.items():
+        for zone in (paris, zones.new_york, zones.kolkata, zones.string):
+            how = 'local times' if loop_of(call) == 'local' else 'instants'
+            for name, years in TIMED_YEARS.items():
+                yield row(f'{shown}, {zone.name}, {name}', call, zone, how, years)
+            if call == 'from_timespec':
+                name = f'{shown}, {zone.name}, sorted 2015 to 2035'
+                yield row(name, call, zone, 'sorted instants')
+    yield row('`DateTime::find_n`, at jumps, Paris', 'find_n', paris, 'local times at jumps')
+    yield row('`DateTime::find_n`, random, 100000 transitions', 'find_n', many, 'local times')
+    yield row('`DateTime::find`, random, Paris', 'find', paris, 'local times')
+    yield row('`Display` into a new string, Paris', 'display', paris, 'instants of local years')
 
 
 def loop_of(call):

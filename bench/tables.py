@@ -22,8 +22,11 @@ PAGE = TOP / 'docs' / 'BENCHMARKS.md'
 README = TOP / 'README.md'
 COLUMNS = 100
 THROUGH = ('through-C', 'through-Rust')
+OWN = ('tz', 'through-Rust')
 PEERS = ('tz-rs', 'glibc', 'Abseil', 'cctz', 'date', 'chrono-tz', 'Go', 'jiff')
 WIDTH, LEFT, BAR, HEAD, LONGEST = 900, 330, 11, 46, 4000
+COMPILERS = ('kit', 'rustc', 'g++')
+WORDS = ('none', 'one', 'two', 'three', 'four', 'five', 'six', 'seven', 'eight')
 STAR = r'\*'
 COLOURS = ('#2563a8', '#c2c8d0', '#e0913a')
 
@@ -97,21 +100,59 @@ def above_goals(kept):
             for name, row in kept.rows('calls').items() if row.get('tz', 0) > rows.GOALS.get(name, row.get('tz', 0))]
 
 
+def multiple(figure):
+    """How many times as many, in three digits."""
+    return f'{figure:.{max(0, 2 - (figure >= 10) - (figure >= 100))}f}'
+
+
 def of_times(kept, reasons):
-    """Nanoseconds of tz, of each peer how many times as many, and tz's over the least of them."""
+    """Nanoseconds of tz and of the Rust crate, of each peer how many times as many as the better of
+    both, and that over the least of the peers."""
     lines = []
     for section in ('times of lines', 'times of calls'):
         for name, row in kept.rows(section).items():
-            if 'tz' in row and best_of(row):
-                ratio = f'{row["tz"] / best_of(row):.2f}{reasons.of(f"time of {name}", row)}'
-                lines.append([name, f'{row["tz"]:.0f}', *(f'{row[peer] / row["tz"]:.2f}' if peer in row else '–' for peer in PEERS), ratio])
-    return table(['row', 'tz, ns', *PEERS, 'tz / best'], lines)
+            own = [row[program] for program in OWN if program in row]
+            if not own or best_of(row) is None:
+                continue
+            least = min(own)
+            differing = kept.rows(f'differing {section}').get(name, {})
+            cells = [f'{row[program]:.1f}' if program in row else '–' for program in OWN]
+            for peer in PEERS:
+                star = STAR * (peer in differing)
+                cells.append(f'{multiple(row[peer] / least)}{star}' if peer in row else '–')
+            letters = reasons.of(f'time of {name}', {**row, 'tz': least})
+            lines.append([name, *cells, f'{least / best_of(row):.2f}{letters}'])
+    return table(['row', 'tz, ns', 'through Rust, ns', *PEERS, 'tz / best'], lines)
 
 
 def days_of(names, kept):
     """The first of the days on which these libraries' lines were counted, their calls were, and their times were taken."""
     made = [kept.rows('days').get(part, {}) for part in ('lines', 'calls', 'times')]
     return [min((days[name] for name in names if name in days), default='no day') for days in made]
+
+
+def of_builds(kept):
+    """What each column is: a line for each build, and the parts in which it was another one."""
+    built = {}
+    for name in ('tz', *THROUGH, *PEERS):
+        ways = {}
+        for part, how in kept.rows('builds').items():
+            if name in how:
+                ways.setdefault(how[name], []).append(part)
+        if not ways:
+            continue
+        usual = max(ways, key=lambda how: 'calls' in ways[how])
+        others = [f'in {" and ".join(parts)} {how}' for how, parts in ways.items() if how != usual]
+        shown = f'*{name.replace("-", " ")}*' if name in OWN + THROUGH else name
+        built.setdefault('; '.join([usual, *others]), []).append(shown)
+    kit, rustc, cxx = (kept.rows('versions').get(name, {}).get('version', '') for name in COMPILERS)
+    compilers = {
+        'kit': kit or 'the kit',
+        'rustc': f'rustc {rustc}'.strip(),
+        'cxx': f'g++ {cxx}'.strip(),
+    }
+    return '\n'.join(filled(f'- {", ".join(names)}: {how.format(**compilers)}', '  ')
+                     for how, names in built.items())
 
 
 def of_zones(versions):
@@ -148,12 +189,25 @@ def span(kept, called):
     return min(figures_of), max(figures_of), f'{min(ratios):.1f}', f'{max(ratios):.1f}'
 
 
+def peers_with(kept, called):
+    """How many peers have a row of a call."""
+    found = [row for name, row in kept.rows('calls').items() if name.startswith(f'`{called}`')]
+    return WORDS[sum(any(peer in row for row in found) for peer in PEERS)]
+
+
 def of_readme(kept):
     """What README.md says of calls."""
-    lookup, search, following = (span(kept, name) for name in ('DateTime::from_timespec', 'DateTime::find_n', 'TimeZoneRef::following'))
-    return (f'In zones with transitions or a rule `DateTime::from_timespec` takes {lookup[0]} to {lookup[1]} instructions, and the best of eight other '
-            f'libraries {lookup[2]} to {lookup[3]} times as many. `find_n`, a search that does not allocate, takes {search[0]} to {search[1]}, and the best of them '
-            f'{search[2]} to {search[3]} times as many; `following` takes {following[0]} to {following[1]}, and the best of three {following[2]} to {following[3]} times as many')
+    called = ('DateTime::from_timespec', 'DateTime::find_n', 'TimeZoneRef::following')
+    lookup, search, following = (span(kept, name) for name in called)
+    others, with_changes = peers_with(kept, called[0]), peers_with(kept, called[2])
+    return (
+        f'In zones with transitions or a rule `{called[0]}` takes {lookup[0]} to {lookup[1]} '
+        f'instructions, and the best of {others} other libraries {lookup[2]} to {lookup[3]} times '
+        f'as many. `find_n`, a search that does not allocate, takes {search[0]} to {search[1]}, '
+        f'and the best of them {search[2]} to {search[3]} times as many; `following` takes '
+        f'{following[0]} to {following[1]}, and the best of {with_changes} {following[2]} to '
+        f'{following[3]} times as many'
+    )
 
 
 def of_scaling(kept):
@@ -231,6 +285,7 @@ def write():
     reasons = Reasons()
     made = {
         'versions': of_versions(kept),
+        'builds': of_builds(kept),
         'lines': of_instructions('lines', kept, (), PEERS[:-1], reasons),
         'calls': of_instructions('calls', kept, THROUGH, PEERS, reasons),
         'own': of_own(kept),

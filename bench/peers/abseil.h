@@ -25,6 +25,8 @@ struct Zone {
         return absl::CivilSecond(local.year, local.month, local.day, local.hour, local.minute, local.second);
     }
 
+    int offset(long instant) { return zone.At(absl::FromUnixSeconds(instant)).offset; }
+
     Shown shown(long instant, bool named) { return shown_at(absl::FromUnixSeconds(instant), named); }
 
     Shown shown_at(absl::Time instant, bool named) {

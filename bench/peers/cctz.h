@@ -36,6 +36,8 @@ struct Zone {
         return cctz::civil_second(local.year, local.month, local.day, local.hour, local.minute, local.second);
     }
 
+    int offset(long instant) { return zone.lookup(at(instant)).offset; }
+
     Shown shown(long instant, bool named) { return shown_at(at(instant), named); }
 
     Shown shown_at(Seconds instant, bool named) {

@@ -11,13 +11,13 @@ struct Zone {
     // One of these, or none: then the offset alone.
     const date::time_zone *zone = nullptr;
     std::unique_ptr<Posix::time_zone> rule;
-    std::chrono::seconds offset{0};
+    std::chrono::seconds fixed{0};
     std::string argument;
 
     Zone(const std::string &option, const std::string &argument) : argument(argument) {
         const std::string folder = "/usr/share/zoneinfo/";
         if (option == "-o") {
-            offset = std::chrono::seconds(atol(argument.c_str()));
+            fixed = std::chrono::seconds(atol(argument.c_str()));
         } else if (option == "-z") {
             rule = std::make_unique<Posix::time_zone>(argument);
         } else if (argument.compare(0, folder.size(), folder) || argument.find("/right/") != std::string::npos) {
@@ -51,8 +51,15 @@ struct Zone {
 
     bool is_fixed() { return !zone && !rule; }
 
+    int offset(long instant) {
+        return (int)(is_fixed() ? fixed : info(at(instant)).offset).count();
+    }
+
     Shown shown(long instant, bool named) {
-        if (is_fixed()) return of(date::local_seconds(at(instant).time_since_epoch() + offset), (int)offset.count());
+        if (is_fixed()) {
+            const auto reading = at(instant).time_since_epoch() + fixed;
+            return of(date::local_seconds(reading), (int)fixed.count());
+        }
         const auto there = info(at(instant));
         Shown shown = of(date::local_seconds(at(instant).time_since_epoch() + there.offset), (int)there.offset.count());
         if (named) shown.call_it(there.abbrev.data(), there.abbrev.size());
@@ -64,7 +71,7 @@ struct Zone {
             Found found;
             found.count = 1;
             found.entries[0].kind = 'N';
-            found.entries[0].shown = of(of(local), (int)offset.count());
+            found.entries[0].shown = of(of(local), (int)fixed.count());
             return found;
         }
         const auto there = info(of(local));
@@ -87,7 +94,7 @@ struct Zone {
     }
 
     long first(const Local &local) {
-        if (is_fixed()) return (of(local).time_since_epoch() - offset).count();
+        if (is_fixed()) return (of(local).time_since_epoch() - fixed).count();
         const auto there = info(of(local));
         if (there.result == date::local_info::nonexistent) return there.first.end.time_since_epoch().count();
         return (of(local).time_since_epoch() - there.first.offset).count();

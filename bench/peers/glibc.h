@@ -34,6 +34,13 @@ struct Zone {
         return parts;
     }
 
+    // No call gives the offset alone.
+    int offset(time_t instant) {
+        tm parts;
+        localtime_r(&instant, &parts);
+        return (int)parts.tm_gmtoff;
+    }
+
     Shown shown(time_t instant, bool named) {
         tm parts;
         localtime_r(&instant, &parts);

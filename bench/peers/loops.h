@@ -2,6 +2,7 @@
 //
 // A driver includes its peer's header after defining PEER, and the peer gives a struct Zone:
 //   Zone(option, argument)            the zone of -o OFFSET, -f FILE or -z STRING; refuse(..) where the peer has none
+//   int offset(long)                  the offset of the clock at an instant
 //   Shown shown(long, int)            what clocks show at an instant
 //   Found found(Local)                the instants of a local time, each as it is shown
 //   long first(Local)                 the Unix time of the first: in a fold the earlier, in a gap that of the jump, where the peer says so

@@ -38,6 +38,8 @@ pub trait Zone: Sized {
     /// What `first_n` fills: it is made once, before the calls.
     type Slots: Default;
     fn new(option: &str, argument: &str) -> Self;
+    /// The offset of the clock at an instant.
+    fn offset(&self, instant: i64) -> i32;
     /// What clocks show at an instant.
     fn shown(&self, instant: i64, nanoseconds: u32) -> Shown;
     /// The same with its name, handed on; or none, where the zone has no type then.
@@ -255,6 +257,7 @@ fn make_calls<Z: Zone>(zone: &Z, argument: &str, call: &str, times: &str) {
     match call {
         "instant" => run(call, times, &words, |word| *word as u64),
         "local" => run(call, times, &locals, sum_of),
+        "find_local_time_type" => run(call, times, &words, |word| zone.offset(*word) as u64),
         "from_timespec" => run(call, times, &words, |word| {
             let shown = zone.shown(*word, 7);
             sum_of(&shown.local).wrapping_add(shown.offset as u64)

@@ -171,6 +171,8 @@ void make_calls(Zone &zone, const std::string &call, const std::string &times) {
         run(call, times, words, [](long word) { return word; });
     } else if (call == "local") {
         run(call, times, locals, [](const Local &local) { return sum_of(local); });
+    } else if (call == "find_local_time_type") {
+        run(call, times, words, [&](long word) { return (uint64_t)(int64_t)zone.offset(word); });
     } else if (call == "from_timespec") {
         run(call, times, words, [&](long word) { return sum_of(zone.shown(word, false)); });
     } else if (call == "find" || call == "find_n") {

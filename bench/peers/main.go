@@ -184,6 +184,14 @@ func makeCalls(option, argument, call, times string) {
 			}
 			return
 		})
+	case "find_local_time_type":
+		run(call, times, len(words), func(first, last int) (total uint64) {
+			for _, word := range words[first:last] {
+				_, offset := time.Unix(word, 0).In(zone).Zone()
+				total += uint64(offset)
+			}
+			return
+		})
 	case "from_timespec":
 		run(call, times, len(words), func(first, last int) (total uint64) {
 			for _, word := range words[first:last] {

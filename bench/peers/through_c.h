@@ -82,6 +82,12 @@ struct Zone {
         return shown;
     }
 
+    int offset(long instant) {
+        tz_local_time_type type{};
+        if (tz_zone_type_at(&tables.zone, instant, &type)) refuse("no type");
+        return type.ut_offset;
+    }
+
     Shown shown(long instant, bool named) {
         tz_date_time date_time{};
         if (tz_date_time_from_timespec(instant, 7, &tables.zone, &date_time)) refuse("no date time");

@@ -537,8 +537,9 @@ static void test_zones(void) {
   EXPECT(segment.local_time_type.ut_offset, 7200);
   CODE(tz_zone_segment_at(zone, INT64_MAX, &segment), TZ_OK);
   EXPECT(segment.has_type, false);
-  static const unsigned char no_type[sizeof segment.local_time_type] = {0};
-  EXPECT(memcmp(&segment.local_time_type, no_type, sizeof no_type), 0);
+  static const tz_local_time_type no_type = {0};
+  const size_t without_padding = offsetof(tz_local_time_type, designation_length) + 1;
+  EXPECT(memcmp(&segment.local_time_type, &no_type, without_padding), 0);
   CODE(tz_zone_following(zone, 0, &change), TZ_OK);
   EXPECT(change.unix_time, 946684800);
   EXPECT(change.before.ut_offset, 7200);

@@ -2,7 +2,7 @@
  * tz: Unix time to the local date and time of a time zone, and back.
  *
  * ABI number 2 (TZ_ABI).
- * Every call is proved against its contract (crates/tz_c). What a proof cannot see is that a caller keeps what is asked here:
+ * Every call is proved against its contract (crates/tz_c); cargo's library converts pointers by code that is only tested. What a proof cannot see is that a caller keeps what is asked here:
  *
  * - Pointers. A pointer, as a parameter or in a `tz_parts`, is not null, is aligned, and points to one value, or, if a length follows it, to that
  *   many. With length 0 it may be null, in a `tz_parts` too.
@@ -32,8 +32,8 @@ extern "C" {
 #endif
 
 /* The version, and as a number that can be compared: 1000000 * major + 1000 * minor + patch. */
-#define TZ_VERSION "0.7.3"
-#define TZ_VERSION_NUMBER 7003
+#define TZ_VERSION "2.0.0"
+#define TZ_VERSION_NUMBER 2000000
 
 /* The number of this header's layout: the first number of `tz_layout`. */
 #define TZ_ABI 2
@@ -366,7 +366,7 @@ tz_code tz_rule_text(const tz_local_time_type *fixed, size_t fixed_length, const
 /* The sizes of a TZif file, by its headers alone. (RFC 8536) TZ_FILE_... */
 tz_code tz_file_sizes(const uint8_t *bytes, size_t bytes_length, tz_sizes *out);
 
-/* The parts of a TZif file and the end offsets of its zone. The three lengths are those of `tz_file_sizes`.
+/* The parts of a TZif file, and the least and the greatest offset of its zone. The three lengths are those of `tz_file_sizes`.
    TZ_BUFFER_LENGTH, TZ_FILE_..., TZ_STRING_... (of the footer), the codes of local time types, rules and `tz_zone_check`, TZ_MEMORY.
    The call takes memory by malloc and gives it back. */
 tz_code tz_file_read(const uint8_t *bytes, size_t bytes_length, tz_transition *transitions, size_t transitions_length,

@@ -1,10 +1,10 @@
-"""Makes functions `const fn`: erasure.py names them. In them what rustc does not take in constants is written otherwise:
+"""Makes functions `const fn` that are not in their sources: constants.txt names them. In them what rustc does not take in constants is written otherwise:
 
     i64::from(x)                    x as i64                   and other integers that lose nothing
     let x = call()?;                let x = match call() { Ok(value) => value, Err(error) => return Err(error) };
     for i in 0..n { .. }            let mut i = 0; while i < n { .. i += 1; }
     a.min(b), a.max(b)              least!(a, b), greatest!(a, b)   macros of the shim
-    &bytes[a..b]                    bytes.split_at(b).0.split_at(a).1
+    &bytes[..n]                     bytes.split_at(n).0
     i64::try_from(x)                a call of the shim
 """
 import re
@@ -136,7 +136,7 @@ def with_comparisons(path, name, text):
 
 
 def with_slices(path, name, text):
-    """A piece of a slice."""
+    """The first elements of a slice."""
     while True:
         tokens = tokens_of(path, text)
         for at, token in enumerate(tokens):
@@ -153,15 +153,10 @@ def with_slices(path, name, text):
         else:
             return text
         first = chain_start(tokens, at)
-        if tokens[first - 1].text != "&":
-            raise Stop(f"a piece of a slice in a form that is not known")
-        low = text[token.end : tokens[dots].start].strip()
+        if tokens[first - 1].text != "&" or dots != at + 1 or dots + 1 == end:
+            raise Stop("a piece of a slice in a form that is not known")
         high = text[tokens[dots].end : tokens[end].start].strip()
-        new = text[tokens[first].start : token.start]
-        if high:
-            new += f".split_at({high}).0"
-        if low:
-            new += f".split_at({low}).1"
+        new = f"{text[tokens[first].start : token.start]}.split_at({high}).0"
         text = edited(text, [(tokens[first - 1].start, tokens[end].end, new)])
 
 
@@ -184,8 +179,7 @@ def with_whiles(path, name, text):
         index, low, high = found.groups()
         if re.search(r"\bcontinue\b", text[found.end() : end]):
             raise Stop("a loop that continues")
-        index_name = index if index != "_" else "turn"
         text = (
-            f"{text[: found.start()]}let mut {index_name} = {low};\nwhile {index_name} < {high} {{{text[found.end() : end]}"
-            f"{index_name} += 1;\n{text[end:]}"
+            f"{text[: found.start()]}let mut {index} = {low};\nwhile {index} < {high} {{{text[found.end() : end]}"
+            f"{index} += 1;\n{text[end:]}"
         )

@@ -1,4 +1,4 @@
-"""What bindings/erase needs to know of this repository: packages, items that are left out, paths, and functions that are const."""
+"""What bindings/erase needs to know of this repository: packages, items that are left out, paths, and functions that are const in Rust alone."""
 import os
 import re
 from dataclasses import dataclass, field
@@ -82,6 +82,7 @@ PACKAGES = (
         folder="bindings/c/src/proved",
         crates=("tz_c",),
         root="crate::proved",
+        skipped=("crates/tz_c/src/laws.rt",),
         by_hand={"": "bindings/c/src/proved/mod.rs"},
         others={name: f"tz::proved::{name}" for name in ("tz_base", "tz_rule", "tz_zone", "tz")},
         std_paths=tuple((old, new.replace("crate::", "tz::")) for old, new in STD),
@@ -101,15 +102,12 @@ PACKAGES = (
 
 # Exact texts that are replaced before anything else.
 EXACT = {
-    "crates/tz_rule/src/timezone/alternate_data.rt": (
-        ("parts.check_range().ok()?;", "if parts.check_range().is_err() { return None; }"),
-    ),
     "crates/tz/src/datetime/utc_date_time.rt": (
         ("self.checked_add(duration).unwrap()", 'self.checked_add(duration).expect("attempt to add with overflow")'),
         ("self.checked_sub(duration).unwrap()", 'self.checked_sub(duration).expect("attempt to subtract with overflow")'),
     ),
     # The public type is by hand.
-    "crates/tz_zone/src/timezone/zone_name.rt": (
+    "crates/tz_zone/src/timezone/settings.rt": (
         ("(super::TimeZone::named)", "(crate::timezone::TimeZone::named)"),
     ),
     # Rust 1.85 has no condition with a pattern beside others, and no method for this cast.
@@ -121,7 +119,7 @@ EXACT = {
             "        return Some((i64::from(number), &bytes[end..]));\n    } }",
         ),
     ),
-    "crates/tz_query/src/query/type_suffixes.rt": (
+    "crates/tz_query/src/query/answers.rt": (
         ("local_time_type.ut_offset().cast_unsigned()", "local_time_type.ut_offset() as u32"),
     ),
 }
@@ -133,8 +131,9 @@ LEFT_OUT = {
     "crates/tz_zone/src/lib.rt": {"laws"},
     "crates/tz/src/lib.rt": {"laws"},
     "crates/tz_query/src/lib.rt": {"laws"},
+    "crates/tz_c/src/lib.rt": {"laws"},
     # In Rust one implementation is for all that is a `TzError`.
-    "crates/tz_base/src/error/conversions.rt": {"From for Error"},
+    "crates/tz_base/src/error/tz_error.rt": {"From for Error"},
     # In Rust the current time is no argument.
     "crates/tz/src/datetime/date_time.rt": {"DateTime::now"},
     "crates/tz/src/datetime/utc_date_time.rt": {"UtcDateTime::now"},
@@ -150,7 +149,7 @@ LEFT_OUT = {
 
 # Structs whose fields the C library writes, from pointers.
 OPEN_FIELDS = {
-    "crates/tz_zone/src/timezone/zone_data.rt": ("ZoneData",),
+    "crates/tz_c/src/zone_data.rt": ("ZoneData",),
     "crates/tz_c/src/zones.rt": ("PartsData",),
 }
 
@@ -172,15 +171,15 @@ EXAMPLE_FORMS = (
 # Sources whose items are not the public ones of the crate: their examples are of Rattle.
 OTHER_EXAMPLES = {
     "crates/tz/src/lib.rt",
-    "crates/tz_zone/src/timezone/file_reader.rt",
+    "crates/tz_zone/src/timezone/files.rt",
     "crates/tz_zone/src/timezone/settings.rt",
     "crates/tz_zone/src/timezone/zone.rt",
-    "crates/tz_zone/src/timezone/zone_of_file.rt",
+    "crates/tz_zone/src/timezone/zone_of_bytes.rt",
 }
 
 
 def constants():
-    """The functions that are const, by source."""
+    """The functions that are const in Rust alone, by source."""
     made, names = {}, set()
     with open(os.path.join(os.path.dirname(__file__), "constants.txt"), encoding="utf-8") as file:
         for line in file:

@@ -58,7 +58,7 @@ def with_open_fields(text, names):
     """Structs whose fields the C library writes, from pointers."""
     for name in names:
         found = re.search(rf"^pub struct {name}<'a> \{{\n(.*?)^\}}", text, re.S | re.M)
-        fields = re.sub(r"^    (?=\w+:)", "    pub ", found[1], flags=re.M)
+        fields = re.sub(r"^    (?:pub\(crate\) )?(?=\w+:)", "    pub ", found[1], flags=re.M)
         text = text[: found.start(1)] + fields + text[found.end(1) :]
     return text
 

@@ -180,7 +180,7 @@ def with_views(path, text):
             if edits and edits[-1][0] == found.start():
                 edits.pop()
                 line = new
-            new = re.sub(r"\bCounted,\s*|,\s*Counted\b", "", line)
+            new = re.sub(r"\bCounted,\s*|,\s*Counted\b|^use [\w:]*::Counted;$", "", line)
             edits.append((found.start(), found.end(), new))
     return edited(text, edits)
 

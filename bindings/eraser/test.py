@@ -62,6 +62,8 @@ class Stops(unittest.TestCase):
             erased("fn one() -> Option<u8> {\n    Some(two::<u8>()?)\n}\n")
         with self.assertRaisesRegex(Stop, "in one: a loop that continues"):
             erased("fn one() {\n    for i in 0..2 { if i == 0 { continue; } }\n}\n")
+        with self.assertRaisesRegex(Stop, "in one: a piece of a slice"):
+            erased("fn one(a: &[u8]) -> &[u8] {\n    &a[1..3]\n}\n")
 
 
 class Cuts(unittest.TestCase):
@@ -81,18 +83,28 @@ class Cuts(unittest.TestCase):
         self.addCleanup(erasure.CONST.pop, PATH)
         made = erased(
             "fn one(a: u8, b: &[u8]) -> Option<i64> {\n    let mut sum = i64::from(a).max(2);\n"
-            "    for i in 0..a {\n        sum += two(&b[1..3])?;\n    }\n    Some(-i64::from(a + 1) + sum)\n}\n"
+            "    for i in 0..a {\n        sum += two(&b[..3])?;\n    }\n    Some(-i64::from(a + 1) + sum)\n}\n"
         )
         wanted = (
             "const fn one(a: u8, b: &[u8]) -> Option<i64> { let mut sum = crate::shim::greatest!((a as i64), 2);"
-            " let mut i = 0; while i < a { sum += match two(b.split_at(3).0.split_at(1).1) { Some(value) => value, None => return None }; i += 1; }"
+            " let mut i = 0; while i < a { sum += match two(b.split_at(3).0) { Some(value) => value, None => return None }; i += 1; }"
             " Some(-((a + 1) as i64) + sum) }"
         )
         self.assertEqual("".join(made.split()), "".join(wanted.split()))
 
+    def test_an_import_of_the_counting_view(self):
+        made = erased("use crate::one::Counted;\nuse crate::two::{Counted, Uncounted};\n")
+        self.assertNotRegex(made, r"\bCounted\b")
+        self.assertIn("two::{Uncounted};", made)
+
 
 class Exports(unittest.TestCase):
     """A function for C, and the source's own."""
+
+    def test_fields_that_are_open(self):
+        text = "pub struct Two<'a> {\n    pub(crate) one: &'a [u8],\n    three: i32,\n}\n"
+        wanted = "pub struct Two<'a> {\n    pub one: &'a [u8],\n    pub three: i32,\n}\n"
+        self.assertEqual(wanted, exports.with_open_fields(text, ("Two",)))
 
     def both(self, given, imports="use tz_zone::{Global, ZoneData};\n"):
         text = f'{imports}\n/// Docs.\n#[unsafe(no_mangle)]\npub extern "C" fn two({given}) -> u32 {{\n    3\n}}\n'

@@ -5,7 +5,6 @@ use crate::pointers::{Zone, list, list_mut};
 use crate::proved::tz_c::codes::OUT_OF_RANGE;
 use crate::proved::tz_c::texts::write_text;
 use core::str;
-use tz::proved::tz_zone::inner::ZoneData;
 
 /// Writes the zone of a name, and returns whether there is one.
 ///
@@ -19,7 +18,7 @@ pub unsafe extern "C" fn tz_built_in(name: *const u8, name_length: usize, out: &
     let Some(zone) = str::from_utf8(name).ok().and_then(tz_zones::named) else {
         return false;
     };
-    *out = Zone::of(&ZoneData::of(zone));
+    *out = Zone::of(zone);
     true
 }
 

@@ -4,14 +4,11 @@
 #![allow(unsafe_code)]
 
 use crate::pointers::{Parts, Zone, list, list_mut};
-use crate::proved::tz_c::date_time_texts::ParsedData;
+use crate::proved::tz_c::date_times::ParsedData;
 use crate::proved::tz_c::rules::ConflictData;
-use crate::proved::tz_c::settings::SettingData;
+use crate::proved::tz_c::texts::SettingData;
 use crate::proved::tz_c::zones::{ChangeData, OffsetsData, SegmentData};
-use crate::proved::tz_c::{
-    columns, date_time_texts, date_times, error_texts, files, layout, leap_times, local_time_types,
-    names, places, rules, searches, settings, texts, utc, zones,
-};
+use crate::proved::tz_c::{codes, columns, date_times, files, rules, searches, texts, zones};
 use tz::proved::tz::inner::{DateTimeData, Fields, FoundData, UtcData};
 use tz::proved::tz::{DateTime, UtcDateTime};
 use tz::proved::tz_rule::inner::{AlternateData, DayData, RuleData};
@@ -19,6 +16,42 @@ use tz::proved::tz_rule::timezone::LocalTimeType;
 use tz::proved::tz_zone::inner::FileSizes;
 use tz::proved::tz_zone::timezone::{LeapSecond, Transition};
 use tz::shim::alloc::Global;
+
+/// What a code says.
+///
+/// # Safety
+///
+/// What tz.h asks of a caller.
+#[unsafe(no_mangle)]
+pub unsafe extern "C" fn tz_error_text(
+    code: u32,
+    text: *mut u8,
+    text_length: usize,
+    len: &mut usize,
+) -> u32 {
+    // SAFETY: tz.h asks of a caller what these require.
+    let text = unsafe { list_mut(text, text_length) };
+    codes::tz_error_text(code, text, len)
+}
+
+/// The number of the layout, and the sizes of the types that cross.
+///
+/// # Safety
+///
+/// What tz.h asks of a caller.
+#[unsafe(no_mangle)]
+pub unsafe extern "C" fn tz_layout(out: *mut usize, out_length: usize) -> u32 {
+    // SAFETY: tz.h asks of a caller what these require.
+    let out = unsafe { list_mut(out, out_length) };
+    codes::tz_layout(out)
+}
+
+/// The number of the layout, TZ_ABI of the header. A program refers to the name, so that it is
+/// neither linked nor loaded with a library of another layout.
+#[unsafe(no_mangle)]
+pub extern "C" fn tz_abi_2() -> u32 {
+    codes::tz_abi_2()
+}
 
 /// The offsets of the zone's clock at instants.
 ///
@@ -105,22 +138,6 @@ pub unsafe extern "C" fn tz_column_instants(
     columns::tz_column_instants(fields, choice, &zone, unix_times, codes)
 }
 
-/// The local time and the offset of a text, as `ParsedDateTime::parse` reads it.
-///
-/// # Safety
-///
-/// What tz.h asks of a caller.
-#[unsafe(no_mangle)]
-pub unsafe extern "C" fn tz_date_time_read(
-    text: *const u8,
-    text_length: usize,
-    out: &mut ParsedData,
-) -> u32 {
-    // SAFETY: tz.h asks of a caller what these require.
-    let text = unsafe { list(text, text_length) };
-    date_time_texts::tz_date_time_read(text, out)
-}
-
 /// The date time with the fields, which the type shows.
 #[unsafe(no_mangle)]
 pub extern "C" fn tz_date_time_new(
@@ -177,21 +194,66 @@ pub extern "C" fn tz_date_time_year_day(date_time: &DateTime) -> u16 {
     date_times::tz_date_time_year_day(date_time)
 }
 
-/// What a code says.
+/// The date time of UTC with the fields.
+#[unsafe(no_mangle)]
+pub extern "C" fn tz_utc_new(fields: &Fields, out: &mut UtcData) -> u32 {
+    date_times::tz_utc_new(fields, out)
+}
+
+/// The date time of UTC at an instant.
+#[unsafe(no_mangle)]
+pub extern "C" fn tz_utc_from_timespec(unix_time: i64, nanoseconds: u32, out: &mut UtcData) -> u32 {
+    date_times::tz_utc_from_timespec(unix_time, nanoseconds, out)
+}
+
+/// The date time of UTC a duration later.
+#[unsafe(no_mangle)]
+pub extern "C" fn tz_utc_add(
+    utc: &UtcDateTime,
+    seconds: u64,
+    nanoseconds: u32,
+    out: &mut UtcData,
+) -> u32 {
+    date_times::tz_utc_add(utc, seconds, nanoseconds, out)
+}
+
+/// The date time of UTC a duration earlier.
+#[unsafe(no_mangle)]
+pub extern "C" fn tz_utc_sub(
+    utc: &UtcDateTime,
+    seconds: u64,
+    nanoseconds: u32,
+    out: &mut UtcData,
+) -> u32 {
+    date_times::tz_utc_sub(utc, seconds, nanoseconds, out)
+}
+
+/// The week day, from Sunday = 0 to 6.
+#[unsafe(no_mangle)]
+pub extern "C" fn tz_utc_week_day(utc: &UtcDateTime) -> u8 {
+    date_times::tz_utc_week_day(utc)
+}
+
+/// Days since January 1st, from 0 to 365.
+#[unsafe(no_mangle)]
+pub extern "C" fn tz_utc_year_day(utc: &UtcDateTime) -> u16 {
+    date_times::tz_utc_year_day(utc)
+}
+
+/// The local time and the offset of a text, as `ParsedDateTime::parse` reads it.
 ///
 /// # Safety
 ///
 /// What tz.h asks of a caller.
 #[unsafe(no_mangle)]
-pub unsafe extern "C" fn tz_error_text(
-    code: u32,
-    text: *mut u8,
+pub unsafe extern "C" fn tz_date_time_read(
+    text: *const u8,
     text_length: usize,
-    len: &mut usize,
+    out: &mut ParsedData,
 ) -> u32 {
     // SAFETY: tz.h asks of a caller what these require.
-    let text = unsafe { list_mut(text, text_length) };
-    error_texts::tz_error_text(code, text, len)
+    let text = unsafe { list(text, text_length) };
+    date_times::tz_date_time_read(text, out)
 }
 
 /// The sizes of a TZif file, by its headers alone.
@@ -210,7 +272,7 @@ pub unsafe extern "C" fn tz_file_sizes(
     files::tz_file_sizes(bytes, out)
 }
 
-/// The parts of a TZif file and the end offsets of its zone.
+/// The parts of a TZif file, and the least and the greatest offset of its zone.
 ///
 /// # Safety
 ///
@@ -265,42 +327,6 @@ pub unsafe extern "C" fn tz_string_read(
     files::tz_string_read(text, is_extended, out)
 }
 
-/// The number of the layout, and the sizes of the types that cross.
-///
-/// # Safety
-///
-/// What tz.h asks of a caller.
-#[unsafe(no_mangle)]
-pub unsafe extern "C" fn tz_layout(out: *mut usize, out_length: usize) -> u32 {
-    // SAFETY: tz.h asks of a caller what these require.
-    let out = unsafe { list_mut(out, out_length) };
-    layout::tz_layout(out)
-}
-
-/// The leap time of an instant.
-///
-/// # Safety
-///
-/// What tz.h asks of a caller.
-#[unsafe(no_mangle)]
-pub unsafe extern "C" fn tz_zone_leap_time(zone: &Zone, unix_time: i64, out: &mut i64) -> u32 {
-    // SAFETY: tz.h asks of a caller what these require.
-    let zone = unsafe { zone.data() };
-    leap_times::tz_zone_leap_time(&zone, unix_time, out)
-}
-
-/// The least instant at which a leap time is reached.
-///
-/// # Safety
-///
-/// What tz.h asks of a caller.
-#[unsafe(no_mangle)]
-pub unsafe extern "C" fn tz_zone_effect(zone: &Zone, leap_time: i64, out: &mut i64) -> u32 {
-    // SAFETY: tz.h asks of a caller what these require.
-    let zone = unsafe { zone.data() };
-    leap_times::tz_zone_effect(&zone, leap_time, out)
-}
-
 /// The local time type with these parts, as `LocalTimeType::new` makes it.
 ///
 /// # Safety
@@ -317,19 +343,20 @@ pub unsafe extern "C" fn tz_local_time_type_new(
 ) -> u32 {
     // SAFETY: tz.h asks of a caller what these require.
     let name = unsafe { list(name, name_length) };
-    local_time_types::tz_local_time_type_new(ut_offset, is_dst, has_name, name, out)
+    rules::tz_local_time_type_new(ut_offset, is_dst, has_name, name, out)
 }
 
-/// The day with this number of the days that are not February 29th, as `Julian1WithoutLeap::new` makes it.
+/// The day with this number of the days that are not February 29th, as `Julian1WithoutLeap::new`
+/// makes it.
 #[unsafe(no_mangle)]
 pub extern "C" fn tz_julian_1_new(julian_day_1: u16, out: &mut DayData) -> u32 {
-    local_time_types::tz_julian_1_new(julian_day_1, out)
+    rules::tz_julian_1_new(julian_day_1, out)
 }
 
 /// The day this many days after January 1st, as `Julian0WithLeap::new` makes it.
 #[unsafe(no_mangle)]
 pub extern "C" fn tz_julian_0_new(julian_day_0: u16, out: &mut DayData) -> u32 {
-    local_time_types::tz_julian_0_new(julian_day_0, out)
+    rules::tz_julian_0_new(julian_day_0, out)
 }
 
 /// The week day of a month, as `MonthWeekDay::new` makes it.
@@ -340,31 +367,7 @@ pub extern "C" fn tz_month_week_day_new(
     week_day: u8,
     out: &mut DayData,
 ) -> u32 {
-    local_time_types::tz_month_week_day_new(month, week, week_day, out)
-}
-
-/// Whether the text is a name of a time zone, as `is_zone_name` returns.
-///
-/// # Safety
-///
-/// What tz.h asks of a caller.
-#[unsafe(no_mangle)]
-pub unsafe extern "C" fn tz_name_check(name: *const u8, name_length: usize) -> u32 {
-    // SAFETY: tz.h asks of a caller what these require.
-    let name = unsafe { list(name, name_length) };
-    names::tz_name_check(name)
-}
-
-/// The place of the type of a zone's clock at an instant.
-///
-/// # Safety
-///
-/// What tz.h asks of a caller.
-#[unsafe(no_mangle)]
-pub unsafe extern "C" fn tz_zone_place_at(zone: &Zone, unix_time: i64, out: &mut usize) -> u32 {
-    // SAFETY: tz.h asks of a caller what these require.
-    let zone = unsafe { zone.data() };
-    places::tz_zone_place_at(&zone, unix_time, out)
+    rules::tz_month_week_day_new(month, week, week_day, out)
 }
 
 /// The rule with these parts, as `AlternateTime::new` makes it.
@@ -467,22 +470,6 @@ pub unsafe extern "C" fn tz_find_one(
     searches::tz_find_one(fields, choice, &zone, out)
 }
 
-/// What a setting asks for.
-///
-/// # Safety
-///
-/// What tz.h asks of a caller.
-#[unsafe(no_mangle)]
-pub unsafe extern "C" fn tz_setting_read(
-    text: *const u8,
-    text_length: usize,
-    out: &mut SettingData,
-) -> u32 {
-    // SAFETY: tz.h asks of a caller what these require.
-    let text = unsafe { list(text, text_length) };
-    settings::tz_setting_read(text, out)
-}
-
 /// The date time of UTC as its `Display` prints it.
 ///
 /// # Safety
@@ -543,50 +530,32 @@ pub unsafe extern "C" fn tz_rule_text(
     texts::tz_rule_text(fixed, alternate, text, len)
 }
 
-/// The date time of UTC with the fields.
+/// Whether the text is a name of a time zone, as `is_zone_name` returns.
+///
+/// # Safety
+///
+/// What tz.h asks of a caller.
 #[unsafe(no_mangle)]
-pub extern "C" fn tz_utc_new(fields: &Fields, out: &mut UtcData) -> u32 {
-    utc::tz_utc_new(fields, out)
+pub unsafe extern "C" fn tz_name_check(name: *const u8, name_length: usize) -> u32 {
+    // SAFETY: tz.h asks of a caller what these require.
+    let name = unsafe { list(name, name_length) };
+    texts::tz_name_check(name)
 }
 
-/// The date time of UTC at an instant.
+/// What a setting asks for.
+///
+/// # Safety
+///
+/// What tz.h asks of a caller.
 #[unsafe(no_mangle)]
-pub extern "C" fn tz_utc_from_timespec(unix_time: i64, nanoseconds: u32, out: &mut UtcData) -> u32 {
-    utc::tz_utc_from_timespec(unix_time, nanoseconds, out)
-}
-
-/// The date time of UTC a duration later.
-#[unsafe(no_mangle)]
-pub extern "C" fn tz_utc_add(
-    utc: &UtcDateTime,
-    seconds: u64,
-    nanoseconds: u32,
-    out: &mut UtcData,
+pub unsafe extern "C" fn tz_setting_read(
+    text: *const u8,
+    text_length: usize,
+    out: &mut SettingData,
 ) -> u32 {
-    utc::tz_utc_add(utc, seconds, nanoseconds, out)
-}
-
-/// The date time of UTC a duration earlier.
-#[unsafe(no_mangle)]
-pub extern "C" fn tz_utc_sub(
-    utc: &UtcDateTime,
-    seconds: u64,
-    nanoseconds: u32,
-    out: &mut UtcData,
-) -> u32 {
-    utc::tz_utc_sub(utc, seconds, nanoseconds, out)
-}
-
-/// The week day, from Sunday = 0 to 6.
-#[unsafe(no_mangle)]
-pub extern "C" fn tz_utc_week_day(utc: &UtcDateTime) -> u8 {
-    utc::tz_utc_week_day(utc)
-}
-
-/// Days since January 1st, from 0 to 365.
-#[unsafe(no_mangle)]
-pub extern "C" fn tz_utc_year_day(utc: &UtcDateTime) -> u16 {
-    utc::tz_utc_year_day(utc)
+    // SAFETY: tz.h asks of a caller what these require.
+    let text = unsafe { list(text, text_length) };
+    texts::tz_setting_read(text, out)
 }
 
 /// Whether parts make a zone, as `TimeZoneRef::new` checks them, and its end offsets.
@@ -663,4 +632,40 @@ pub unsafe extern "C" fn tz_zone_preceding(
     // SAFETY: tz.h asks of a caller what these require.
     let zone = unsafe { zone.data() };
     zones::tz_zone_preceding(&zone, unix_time, out)
+}
+
+/// The index of the type of a zone's clock at an instant.
+///
+/// # Safety
+///
+/// What tz.h asks of a caller.
+#[unsafe(no_mangle)]
+pub unsafe extern "C" fn tz_zone_place_at(zone: &Zone, unix_time: i64, out: &mut usize) -> u32 {
+    // SAFETY: tz.h asks of a caller what these require.
+    let zone = unsafe { zone.data() };
+    zones::tz_zone_place_at(&zone, unix_time, out)
+}
+
+/// The leap time of an instant.
+///
+/// # Safety
+///
+/// What tz.h asks of a caller.
+#[unsafe(no_mangle)]
+pub unsafe extern "C" fn tz_zone_leap_time(zone: &Zone, unix_time: i64, out: &mut i64) -> u32 {
+    // SAFETY: tz.h asks of a caller what these require.
+    let zone = unsafe { zone.data() };
+    zones::tz_zone_leap_time(&zone, unix_time, out)
+}
+
+/// The least instant at which a leap time is reached.
+///
+/// # Safety
+///
+/// What tz.h asks of a caller.
+#[unsafe(no_mangle)]
+pub unsafe extern "C" fn tz_zone_effect(zone: &Zone, leap_time: i64, out: &mut i64) -> u32 {
+    // SAFETY: tz.h asks of a caller what these require.
+    let zone = unsafe { zone.data() };
+    zones::tz_zone_effect(&zone, leap_time, out)
 }

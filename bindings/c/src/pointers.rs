@@ -6,13 +6,19 @@
 //! pointer to one value is a reference in Rust, which crosses alike.
 #![allow(unsafe_code)]
 
+use crate::proved::tz_c::zone_data::ZoneData;
 use crate::proved::tz_c::zones::{OffsetsData, PartsData};
 #[cfg(feature = "zones")]
 use core::ptr;
 use core::slice;
+#[cfg(feature = "zones")]
+use tz::TimeZoneRef;
 use tz::proved::tz_rule::inner::AlternateData;
+#[cfg(feature = "zones")]
+use tz::proved::tz_rule::inner::RuleRef;
 use tz::proved::tz_rule::timezone::LocalTimeType;
-use tz::proved::tz_zone::inner::ZoneData;
+#[cfg(feature = "zones")]
+use tz::proved::tz_zone::inner::plain;
 use tz::proved::tz_zone::timezone::{LeapSecond, Transition};
 
 /// A list, by its first value and its length.
@@ -104,12 +110,19 @@ fn lent<T>(list: &'static [T]) -> (*const T, usize) {
 impl Zone {
     /// A zone of the library's own memory.
     #[cfg(feature = "zones")]
-    pub(crate) fn of(zone: &ZoneData<'static>) -> Self {
-        let (transitions, transitions_length) = lent(zone.transitions);
-        let (types, types_length) = lent(zone.local_time_types);
-        let (leap_seconds, leap_seconds_length) = lent(zone.leap_seconds);
-        let (fixed, fixed_length) = lent(zone.fixed);
-        let (alternate, alternate_length) = lent(zone.alternate);
+    pub(crate) fn of(zone: TimeZoneRef<'static>) -> Self {
+        let plain = plain(&zone);
+        let (transitions, transitions_length) = lent(plain.transitions());
+        let (types, types_length) = lent(plain.local_time_types());
+        let (leap_seconds, leap_seconds_length) = lent(plain.leap_seconds());
+        let (fixed, alternate): (&[_], &[_]) = match plain.rule() {
+            Some(RuleRef::Fixed(local_time_type)) => (slice::from_ref(local_time_type), &[]),
+            Some(RuleRef::Alternate(rule)) => (&[], slice::from_ref(rule)),
+            None => (&[], &[]),
+        };
+        let (fixed, fixed_length) = lent(fixed);
+        let (alternate, alternate_length) = lent(alternate);
+        let (least, greatest) = plain.offsets();
         Zone {
             parts: Parts {
                 transitions,
@@ -123,10 +136,7 @@ impl Zone {
                 alternate,
                 alternate_length,
             },
-            offsets: OffsetsData {
-                least: zone.least_offset,
-                greatest: zone.greatest_offset,
-            },
+            offsets: OffsetsData { least, greatest },
         }
     }
 
@@ -139,14 +149,7 @@ impl Zone {
     pub(crate) unsafe fn data(&self) -> ZoneData<'_> {
         // SAFETY: the parts are those of the zone.
         let parts = unsafe { self.parts.data() };
-        ZoneData {
-            transitions: parts.transitions,
-            local_time_types: parts.local_time_types,
-            leap_seconds: parts.leap_seconds,
-            fixed: parts.fixed,
-            alternate: parts.alternate,
-            least_offset: self.offsets.least,
-            greatest_offset: self.offsets.greatest,
-        }
+        let offsets = self.offsets;
+        ZoneData { parts, offsets }
     }
 }

@@ -7,7 +7,11 @@ import unittest
 from pathlib import Path
 
 import tz
-from test.test_zoneinfo import test_zoneinfo as cpython
+
+try:
+    from test.test_zoneinfo import test_zoneinfo as cpython
+except ImportError as fault:  # Debian has it in libpython3-testsuite.
+    raise unittest.SkipTest(f"CPython's own tests are not installed: {fault}") from fault
 
 
 def left_out():

@@ -7,7 +7,7 @@ use std::fs;
 
 use tz::datetime::FoundDateTimeKind;
 use tz::timezone::{AlternateTime, RuleDay, Transition, TransitionRule};
-use tz::{DateTime, LocalTimeType, TimeZoneRef, UtcDateTime};
+use tz::{DateTime, LocalTimeType, TimeZone, TimeZoneRef, UtcDateTime};
 use tz_zones::NAMES;
 
 /// The first and the last year of lookups.
@@ -165,6 +165,36 @@ fn lookups_are_those_of_the_files() {
         for time in instants(file) {
             for time in [time - 86_400, time - 1, time, time + 1, time + 86_400] {
                 assert_eq!(at(zone, time), at(file, time), "{name} at {time}");
+            }
+        }
+    }
+}
+
+/// The type that a walk over all transitions finds before the last of them.
+fn by_walk(zone: TimeZoneRef<'_>, unix_time: i64) -> LocalTimeType {
+    let mut transitions = zone.transitions().iter().rev();
+    let last = transitions.find(|transition| transition.unix_leap_time() <= unix_time);
+    let index = last.map_or(0, Transition::local_time_type_index);
+    zone.local_time_types()[index]
+}
+
+/// A position is first guessed by time, which may succeed or fail beside each transition.
+#[test]
+fn lookups_beside_each_transition_are_those_of_a_walk() {
+    for name in NAMES {
+        let constant = tz_zones::named(name).unwrap();
+        let file = database::zone(name);
+        for zone in [Some(constant), file.as_ref().map(TimeZone::as_ref)]
+            .into_iter()
+            .flatten()
+        {
+            let [before_last @ .., _] = zone.transitions() else {
+                continue;
+            };
+            for time in before_last.iter().map(Transition::unix_leap_time) {
+                for time in [time - 1, time, time + 1] {
+                    assert_eq!(at(zone, time), by_walk(zone, time), "{name} at {time}");
+                }
             }
         }
     }

@@ -14,7 +14,8 @@ pub fixed_type : (fixed : LocalTimeType) (u : ℤ) (t : LocalTimeType) → IsRul
 unfolding IsRuleType
 fixed_type fixed u t is = is
 
-pub alternate_type : (r : AlternateTime) (u : ℤ) (t : LocalTimeType) → IsRuleType (Alternate r) u t → (t ≡ r.dst) ⊎ (t ≡ r.std)
+pub alternate_type : (r : AlternateTime) (u : ℤ) (t : LocalTimeType) → IsRuleType (Alternate r) u t → (t ≡ r.dst)
+    ⊎ (t ≡ r.std)
 unfolding IsRuleType
 alternate_type r u t (years, inl (day, is)) = inl is
 alternate_type r u t (years, inr (day, is)) = inr is
@@ -22,15 +23,18 @@ alternate_type r u t (years, inr (day, is)) = inr is
 -- the types of the clock are those of the list and of the rule
 pub offsets_from_types : (z : Zone) (least greatest : ℤ) →
     ((i : ℕ) (t : LocalTimeType) → IsTypeAt z i t → (least ≤ℤ t.ut_offset) × (t.ut_offset ≤ℤ greatest)) →
-    ((rule : TransitionRule) → z.extra_rule ≡ Some rule → (u : ℤ) (t : LocalTimeType) → IsRuleType rule u t → (least ≤ℤ t.ut_offset) × (t.ut_offset ≤ℤ greatest)) →
+    ((rule : TransitionRule) → z.extra_rule ≡ Some rule → (u : ℤ) (t : LocalTimeType) → IsRuleType rule u t
+    → (least ≤ℤ t.ut_offset) × (t.ut_offset ≤ℤ greatest)) →
     AreOffsetsOf z least greatest
 offsets_from_types z least greatest types rules u t = by_clock
   where
-    after : (rule : Option TransitionRule) → z.extra_rule ≡ rule → IsTypeAfter rule u t → (least ≤ℤ t.ut_offset) × (t.ut_offset ≤ℤ greatest)
+    after : (rule : Option TransitionRule) → z.extra_rule ≡ rule → IsTypeAfter rule u t → (least ≤ℤ t.ut_offset)
+        × (t.ut_offset ≤ℤ greatest)
     after (Some rule) e at = rules rule e u t at
     after None e at = absurd at
 
-    without : (rule : Option TransitionRule) → z.extra_rule ≡ rule → IsTypeWithout z rule u t → (least ≤ℤ t.ut_offset) × (t.ut_offset ≤ℤ greatest)
+    without : (rule : Option TransitionRule) → z.extra_rule ≡ rule → IsTypeWithout z rule u t → (least ≤ℤ t.ut_offset)
+        × (t.ut_offset ≤ℤ greatest)
     without (Some rule) e at = rules rule e u t at
     without None e at = types 0 t at
 

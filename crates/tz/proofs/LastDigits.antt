@@ -17,10 +17,20 @@ last_digits_all (suc width) n = pushed (last_digits width (n / 10)) (last_digits
 
 pub last_digits_length : (width n : ℕ) → length (last_digits width n) ≡ width
 last_digits_length zero n = refl
-last_digits_length (suc width) n = omega (arith, length-append (last_digits width (n / 10)) ((48 + n % 10) ∷ []), last_digits_length width (n / 10))
+last_digits_length (suc width) n = omega (
+  arith,
+  length-append (last_digits width (n / 10)) ((48 + n % 10) ∷ []),
+  last_digits_length width (n / 10),
+)
 
 pub last_digits_value : (width n : ℕ) → n < 10 ^ width → digits_value 10 (last_digits width n) ≡ n
 last_digits_value zero n few = omega (arith, few)
 last_digits_value (suc width) n few =
     let more = last_digits_value width (n / 10) (omega (arith, few, pow-suc 10 width)) in
-    omega (arith, digits_value_push 10 (last_digits width (n / 10)) (48 + n % 10), more, (is_digit (48 + n % 10) (omega arith) (omega arith)).1)
+    omega (
+      arith,
+      digits_value_push 10 (last_digits width (n / 10))
+          (48 + n % 10),
+      more,
+      (is_digit (48 + n % 10) (omega arith) (omega arith)).1,
+    )

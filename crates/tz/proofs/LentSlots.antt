@@ -1,4 +1,5 @@
--- Steps of the proofs by hand of `find_n` and `find_n_counted`: what a lent slice ends as, and the two cases of a `Result`. The words of the logic that both take pass through here.
+-- Steps of the proofs by hand of `find_n` and `find_n_counted`: what a lent slice ends as, and the two cases of a
+-- `Result`. The words of the logic that both take pass through here.
 use Rattle.std.proofs.Common.{◌≡◌, ◌∙◌, refl, sym, ap, subst, ℕ, ◌<◌, ◌^◌, true, ◌&&◌, T, List, [], ◌∷◌, ◌++◌, Ok, Err}
 pub use Rattle.std.proofs.ResultValues.{and_tt, ok_of, err_of}
 pub use Rattle.std.proofs.VecSteps.Shapes.{arm_body}
@@ -7,6 +8,9 @@ use Rattle.std.specs.Prelude.{Result, IfOk, IfErr, OnOk}
 pub use Rattle.tz_base.specs.Fields.{fields_of}
 pub use Rattle.tz.specs.LentSlots.{slot_row, RestsIfInvalid}
 pub use Rattle.tz.specs.Lists.{reference_of}
+use Rattle.tz.specs.Outcomes.{IsOutcome}
+use Rattle.tz_base.specs.declared.fields.Fields.{Fields}
+use Rattle.tz_zone.specs.Table.{Zone}
 pub use Rattle.tz.specs.declared.datetime.find.Refused.{Refused}
 pub use Rattle.tz.specs.declared.datetime.found.FoundDateTimeListRefMut.{FoundDateTimeListRefMut}
 pub use Rattle.tz_base.specs.declared.error.tz_error.TzError.{TzError}
@@ -60,68 +64,111 @@ on_ok_at φ e h = subst (λ z. OnOk z φ) e h
 pub if_err_at : {A E : Type 0} (φ : E → Type 0) {r : Result A E} {x : E} → r ≡ Err x → IfErr r φ → φ x
 if_err_at φ e h = subst (λ z. IfErr z φ) e h
 
+-- a search that succeeded has one outcome, whatever it returns
+pub ok_outcome : {X X' E E' : Type 0} {fault_of : E → TzError} {fault_of' : E' → TzError} {m : Type 0} {z : Zone}
+    {f : Fields} {r : Result X E} {x : X} {x' : X'} → r ≡ Ok x → IsOutcome fault_of m z f r
+    → IsOutcome fault_of' m z f (Ok x')
+ok_outcome e h = record {
+  valid = on_ok_at _ e h.valid;
+  made = on_ok_at _ e h.made;
+  promised = λ _. tt;
+  err = tt;
+}
+
+-- and so has one that was refused
+pub err_outcome : {X X' E : Type 0} {fault_of : E → TzError} {m : Type 0} {z : Zone} {f : Fields} {r : Result X E}
+    {x : E} → r ≡ Err x → IsOutcome fault_of m z f r → IsOutcome {X = X'} (λ e. e) m z f (Err (fault_of x))
+err_outcome e h = record {
+  valid = tt;
+  made = tt;
+  promised = λ p. if_err_at _ e (h.promised p);
+  err = if_err_at _ e h.err;
+}
+
 module _ {M : Type 1} {𝓤 : Ura M} (𝓛 : Logic 𝓤) (R : RattleType) where
   open 𝓛 use {A}
 
   -- a slice that is let go says what its name ends at
-  pub slice_ends : (ℓ : Lifetime) (κ : Lft) (x : MutBor (List R.Denot)) (vs : List Val) → ent 𝓤 (sem 𝓛 ((MutSlice ℓ κ R).own_val x vs)) (A.res x.ghost_name ((Array R 0).coded.code x.now))
+  pub slice_ends : (ℓ : Lifetime) (κ : Lft) (x : MutBor (List R.Denot)) (vs : List Val)
+      → ent 𝓤 (sem 𝓛 ((MutSlice ℓ κ R).own_val x vs)) (A.res x.ghost_name ((Array R 0).coded.code x.now))
   slice_ends ℓ κ x vs =
       qed 𝓛 (‵ ((MutSlice ℓ κ R).own_val x vs) ∷ []) ∵ fsplit ! $ drop ! $ fsplit ! $
       rewrite ! 0 (λ (l : List R.Denot). ‵ (fobs x.ghost_name ((coded_list R.coded).code l))) (heres_id R x.now) refl $
-      use1 𝓛 (‵ (fres x.ghost_name ((coded_list R.coded).code x.now))) (𝓛.names.obs-res x.ghost_name ((coded_list R.coded).code x.now)) $ keep ! (0 ∷ []) $ done !
+      use1 𝓛 (‵ (fres x.ghost_name ((coded_list R.coded).code x.now)))
+      (𝓛.names.obs-res x.ghost_name ((coded_list R.coded).code x.now)) $ keep ! (0 ∷ []) $ done !
 
   module _ (γ : GName) (P : R.Denot → R.Denot → Type 0) (P₀ : R.Denot → Type 0) where
-    tells : (m : maybe.Option GName) (F : R.Denot → R.Denot) (v : R.Denot) → ((w : R.Denot) → P w (F w)) → P₀ v → ent 𝓤 (sem 𝓛 (follows_by R.Denot R.Denot R.coded.code R.coded.code γ m F v)) (sem 𝓛 (follows_so R R γ m P P₀))
+    tells : (m : maybe.Option GName) (F : R.Denot → R.Denot) (v : R.Denot) → ((w : R.Denot) → P w (F w)) → P₀ v
+        → ent 𝓤 (sem 𝓛 (follows_by R.Denot R.Denot R.coded.code R.coded.code γ m F v)) (sem 𝓛 (follows_so R R γ m P P₀))
     unfolding such_by
-    tells m F v p p₀ = ex_i 𝓤 (λ (s : (s : (R.Denot → R.Denot) × R.Denot) × ((w : R.Denot) → P w (s.0 w)) × P₀ s.1). sem 𝓛 (follows_by R.Denot R.Denot R.coded.code R.coded.code γ m s.0.0 s.0.1)) ((F, v), p, p₀)
+    tells m F v p p₀ = ex_i 𝓤 (λ (s : (s : (R.Denot → R.Denot) × R.Denot) × ((w : R.Denot) → P w (s.0 w)) × P₀ s.1). sem
+        𝓛 (follows_by R.Denot R.Denot R.coded.code R.coded.code γ m s.0.0 s.0.1)) ((F, v), p, p₀)
 
     itself : ent 𝓤 (emp 𝓤) (sem 𝓛 (follows R R γ γ (λ w. w)))
     itself =
         let From : R.Denot → R.Denot → Fml = λ z w. fsep (feq R.Denot z w) (fauth γ (R.coded.code w)) in
-        let said = qed 𝓛 [] ∵ each ! (λ (w : R.Denot). wand 𝓤 (A.res γ (R.coded.code w)) (A.res γ (R.coded.code w))) (λ w. assume ! (‵ (fres γ (R.coded.code w))) $ done !) in
-        let back = qed 𝓛 [] ∵ each ! (λ (z : R.Denot). wand 𝓤 (A.auth γ (R.coded.code z)) (sem 𝓛 (fex R.Denot (From z)))) (λ z. assume ! (‵ (fauth γ (R.coded.code z))) $
+        let said = qed 𝓛 [] ∵ each ! (λ (w : R.Denot). wand 𝓤 (A.res γ (R.coded.code w)) (A.res γ (R.coded.code w)))
+        (λ w. assume ! (‵ (fres γ (R.coded.code w))) $ done !) in
+        let back = qed 𝓛 [] ∵ each ! (λ (z : R.Denot). wand 𝓤 (A.auth γ (R.coded.code z))
+        (sem 𝓛 (fex R.Denot (From z)))) (λ z. assume ! (‵ (fauth γ (R.coded.code z))) $
         feq_i ! R.Denot z z refl $ fjoin ! $ fpack ! R.Denot (From z) z $ done !) in
         record { apply = λ a p. (said.apply a p, back.apply a p) }
 
     -- the result has the lender itself, under its name
-    pub ends_in : (γ' : GName) → γ' ≡ γ → ((w : R.Denot) → P w w) → (v : R.Denot) → P₀ v → ent 𝓤 (emp 𝓤) (sem 𝓛 (follows_so R R γ (maybe.some γ') P P₀))
+    pub ends_in : (γ' : GName) → γ' ≡ γ → ((w : R.Denot) → P w w) → (v : R.Denot) → P₀ v
+        → ent 𝓤 (emp 𝓤) (sem 𝓛 (follows_so R R γ (maybe.some γ') P P₀))
     unfolding follows_by
-    ends_in γ' e p v p₀ = via 𝓤 (sem 𝓛 (follows R R γ γ' (λ w. w))) (subst (λ (g : GName). ent 𝓤 (emp 𝓤) (sem 𝓛 (follows R R γ g (λ w. w)))) (sym e) itself) (tells (maybe.some γ') (λ w. w) v p p₀)
+    ends_in γ' e p v p₀ = via 𝓤 (sem 𝓛 (follows R R γ γ' (λ w. w)))
+        (subst (λ (g : GName). ent 𝓤 (emp 𝓤) (sem 𝓛 (follows R R γ g (λ w. w)))) (sym e) itself)
+        (tells (maybe.some γ') (λ w. w) v p p₀)
 
     -- the lender was given up, and ends as v
-    pub ends_as : (v : R.Denot) → ((w : R.Denot) → P w v) → P₀ v → ent 𝓤 (A.res γ (R.coded.code v)) (sem 𝓛 (follows_so R R γ maybe.none P P₀))
+    pub ends_as : (v : R.Denot) → ((w : R.Denot) → P w v) → P₀ v
+        → ent 𝓤 (A.res γ (R.coded.code v)) (sem 𝓛 (follows_so R R γ maybe.none P P₀))
     unfolding follows_by
     ends_as v p p₀ = tells maybe.none (λ _. v) v p p₀
 
 -- the value of a variant with one field is of its type
-pub variant_typed : (τ : Ty) (k : ℕ) (v : Val) → k < 2 ^ 8 → T (has_ty τ v) × WT v → T (has_ty τ v && true) × WT (live k (of_list (v ∷ [])))
+pub variant_typed : (τ : Ty) (k : ℕ) (v : Val) → k < 2 ^ 8 → T (has_ty τ v) × WT v → T (has_ty τ v && true)
+    × WT (live k (of_list (v ∷ [])))
 variant_typed τ k v low typed = (and_tt (has_ty τ v) typed.0, (record { fits = low }, (typed.1, tt)))
 
 module _ {M : Type 1} {𝓤 : Ura M} {𝓛 : Logic 𝓤} {K : Type 0} {Γ : List (Item 𝓤)} {G : Goal 𝓤 𝓛.H} where
   -- the first of several facts at the head of the context is learned
-  pub heard_first : K → (φ : Type 0) (P : SProp 𝓤) → (φ → Seq K 𝓛 (raw P ∷ Γ) G) → Seq K 𝓛 (raw (sep 𝓤 (fact 𝓤 φ) P) ∷ Γ) G
+  pub heard_first : K → (φ : Type 0) (P : SProp 𝓤) → (φ → Seq K 𝓛 (raw P ∷ Γ) G)
+      → Seq K 𝓛 (raw (sep 𝓤 (fact 𝓤 φ) P) ∷ Γ) G
   heard_first t φ P k = use1 𝓛 (raw (fact 𝓤 φ) ⊛ raw P) (id⊢ 𝓤 (sep 𝓤 (fact 𝓤 φ) P)) $ split t $ heard t φ k
 
   -- what is owned is one machine value, which its value determines
-  pub told : K → (R : RattleType) (val : R.Denot → Val) → Tells R (Is R) (λ y. val y ∷ []) → (x : R.Denot) (vs : List Val)
-      → (vs ≡ val x ∷ [] → Is R x (val x ∷ []) → Seq K 𝓛 (‵ (R.own_val x (val x ∷ [])) ∷ Γ) G) → Seq K 𝓛 (‵ (R.own_val x vs) ∷ Γ) G
-  told t R val tells x vs k = peeks t R (Is R) (shows 𝓛 R) x vs (λ is. rewrite t 0 (λ (us : List Val). ‵ (R.own_val x us)) (tells x vs is) refl $
+  pub told : K → (R : RattleType) (val : R.Denot → Val) → Tells R (Is R) (λ y. val y ∷ [])
+      → (x : R.Denot) (vs : List Val)
+      → (vs ≡ val x ∷ [] → Is R x (val x ∷ []) → Seq K 𝓛 (‵ (R.own_val x (val x ∷ [])) ∷ Γ) G)
+      → Seq K 𝓛 (‵ (R.own_val x vs) ∷ Γ) G
+  told t R val tells x vs k = peeks t R (Is R) (shows 𝓛 R) x vs
+      (λ is. rewrite t 0 (λ (us : List Val). ‵ (R.own_val x us)) (tells x vs is) refl $
       k (tells x vs is) (subst (Is R x) (tells x vs is) is))
 
   -- a result is taken apart: its value is one machine value
   module _ (R R' : RattleType) where
     pub ok_taken : K → (val : R.Denot → Val) → Tells R (Is R) (λ y. val y ∷ []) → (x : R.Denot) (v : Val)
-        → (v ≡ live 0 (of_list (val x ∷ [])) → Is R x (val x ∷ []) → Seq K 𝓛 (‵ (R.own_val x (val x ∷ [])) ∷ Γ) G) → Seq K 𝓛 (‵ ((result.the_row R R').own_val (Ok x) (v ∷ [])) ∷ Γ) G
-    ok_taken t val tells x v k = fpick t (λ us. fsplit t $ feq_l t (λ e. fpick t (λ vss. fsplit t $ feq_l t (λ e'. fsplit t $ move t (1 ∷ []) $ drop t $
-        told t R val tells x vss.0 (λ is owned. k (ap only e ∙ ap (λ (ws : List Val). live 0 (of_list ws)) (e' ∙ ap (λ (ws : List Val). ws ++ []) is)) owned)))))
+        → (v ≡ live 0 (of_list (val x ∷ [])) → Is R x (val x ∷ []) → Seq K 𝓛 (‵ (R.own_val x (val x ∷ [])) ∷ Γ) G)
+        → Seq K 𝓛 (‵ ((result.the_row R R').own_val (Ok x) (v ∷ [])) ∷ Γ) G
+    ok_taken t val tells x v k = fpick t (λ us. fsplit t $ feq_l t
+        (λ e. fpick t (λ vss. fsplit t $ feq_l t (λ e'. fsplit t $ move t (1 ∷ []) $ drop t $
+        told t R val tells x vss.0 (λ is owned. k (ap only e ∙ ap (λ (ws : List Val). live 0 (of_list ws))
+        (e' ∙ ap (λ (ws : List Val). ws ++ []) is)) owned)))))
 
     pub err_taken : K → (val : R'.Denot → Val) → Tells R' (Is R') (λ y. val y ∷ []) → (x : R'.Denot) (v : Val)
-        → (v ≡ live 1 (of_list (val x ∷ [])) → Is R' x (val x ∷ []) → Seq K 𝓛 (‵ (R'.own_val x (val x ∷ [])) ∷ Γ) G) → Seq K 𝓛 (‵ ((result.the_row R R').own_val (Err x) (v ∷ [])) ∷ Γ) G
-    err_taken t val tells x v k = fpick t (λ us. fsplit t $ feq_l t (λ e. fpick t (λ vss. fsplit t $ feq_l t (λ e'. fsplit t $ move t (1 ∷ []) $ drop t $
-        told t R' val tells x vss.0 (λ is owned. k (ap only e ∙ ap (λ (ws : List Val). live 1 (of_list ws)) (e' ∙ ap (λ (ws : List Val). ws ++ []) is)) owned)))))
+        → (v ≡ live 1 (of_list (val x ∷ [])) → Is R' x (val x ∷ []) → Seq K 𝓛 (‵ (R'.own_val x (val x ∷ [])) ∷ Γ) G)
+        → Seq K 𝓛 (‵ ((result.the_row R R').own_val (Err x) (v ∷ [])) ∷ Γ) G
+    err_taken t val tells x v k = fpick t (λ us. fsplit t $ feq_l t
+        (λ e. fpick t (λ vss. fsplit t $ feq_l t (λ e'. fsplit t $ move t (1 ∷ []) $ drop t $
+        told t R' val tells x vss.0 (λ is owned. k (ap only e ∙ ap (λ (ws : List Val). live 1 (of_list ws))
+        (e' ∙ ap (λ (ws : List Val). ws ++ []) is)) owned)))))
 
 -- several facts, to be shown one after another
-pub fact_and : {M : Type 1} (𝓤 : Ura M) {φ : Type 0} {F : SProp 𝓤} → φ → ent 𝓤 (emp 𝓤) F → ent 𝓤 (emp 𝓤) (sep 𝓤 (fact 𝓤 φ) F)
+pub fact_and : {M : Type 1} (𝓤 : Ura M) {φ : Type 0} {F : SProp 𝓤} → φ → ent 𝓤 (emp 𝓤) F
+    → ent 𝓤 (emp 𝓤) (sep 𝓤 (fact 𝓤 φ) F)
 fact_and 𝓤 {φ} {F} x f = via 𝓤 (sep 𝓤 (emp 𝓤) (emp 𝓤)) (emp∗ 𝓤 (emp 𝓤)) (mono∗ 𝓤 (fact_i 𝓤 φ (emp 𝓤) x) f)
 
 pub fact_last : {M : Type 1} (𝓤 : Ura M) {φ : Type 0} → φ → ent 𝓤 (emp 𝓤) (fact 𝓤 φ)

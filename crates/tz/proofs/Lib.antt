@@ -5,6 +5,7 @@ pub mod DatedEntries
 pub mod ClockTypes
 pub mod ReadingWindows
 pub mod EntryWalks
+pub mod ChangeEntries
 pub mod WalkLooks
 pub mod PromisedLists
 pub mod CivilFields
@@ -20,7 +21,7 @@ pub mod TzStringRules
 pub mod ComparisonsByParts
 pub mod FieldOrder
 pub mod TimespecTotals
-pub mod Summaries
+pub mod Ends
 pub mod UniqueResults
 pub mod UniqueMeanings
 pub mod LocalMeaningLaws

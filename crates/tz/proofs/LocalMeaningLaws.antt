@@ -76,8 +76,8 @@ at_last x (y ∷ ys) = at_last y ys
 
 has_last : (x : FoundDateTimeKind) (xs : Entries) → (e : FoundDateTimeKind) × (last_entry (x ∷ xs) ≡ Some e)
 has_last x xs =
-    let place : length xs ≡ length (x ∷ xs) - 1 = omega arith in
-    subst (λ (k : ℕ). (e : FoundDateTimeKind) × (slice_get (x ∷ xs) k ≡ Some e)) place (at_last x xs)
+    let position : length xs ≡ length (x ∷ xs) - 1 = omega arith in
+    subst (λ (k : ℕ). (e : FoundDateTimeKind) × (slice_get (x ∷ xs) k ≡ Some e)) position (at_last x xs)
 
 -- `Reject` means the entry of one date time alone
 rejected_if_not : (found : Entries) → ((d : DateTime) → meaning_of found ≢ Once d) → only_shown found ≡ None

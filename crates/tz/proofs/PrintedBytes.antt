@@ -1,4 +1,4 @@
--- Bytes at places of a text, and what follows them.
+-- Bytes at positions of a text, and what follows them.
 use Rattle.std.proofs.Common.{◌≡◌, ℕ, zero, suc, ◌+◌, ◌-◌, ◌*◌, ◌/◌, ◌%◌, ◌<◌, ◌≤◌, List, [], ◌∷◌, ◌++◌, length, get_or, drop, refl, sym, ap, ◌∙◌, arith, ℤ, pos, neg_ℤ, append_assoc, append-nil}
 use Rattle.std.specs.Fmt.{decimal, signed_decimal}
 use Rattle.std.proofs.Math.ListN.{drop_of_length-le}
@@ -8,34 +8,39 @@ use Rattle.tz.proofs.ReadBack.{after_second, after_minute, after_hour, after_dat
 use Rattle.tz.specs.PrintedText.{two_digits, nine_digits, duration_text, offset_text, printed_text}
 use Rattle.tz.specs.PrintedBytes.{IsDigitByte}
 
-pub byte_at : (text : List ℕ) (place : ℕ) → place < length text → drop place text ≡ get_or text place 0 ∷ drop (place + 1) text
-byte_at [] place within = absurd (omega (arith, within))
+pub byte_at : (text : List ℕ) (position : ℕ) → position < length text
+    → drop position text ≡ get_or text position 0 ∷ drop (position + 1) text
+byte_at [] position within = absurd (omega (arith, within))
 byte_at (b ∷ text) zero within = refl
-byte_at (b ∷ text) (suc place) within =
-    let next : suc place + 1 ≡ suc (place + 1) = omega arith in
-    rw next (byte_at text place (omega (arith, within)))
+byte_at (b ∷ text) (suc position) within =
+    let next : suc position + 1 ≡ suc (position + 1) = omega arith in
+    rw next (byte_at text position (omega (arith, within)))
 
-pub pair_at_place : (text : List ℕ) (place number : ℕ) → place + 2 ≤ length text → IsDigitByte (get_or text place 0) → IsDigitByte (get_or text (place + 1) 0)
-    → number ≡ 10 * (get_or text place 0 - 48) + (get_or text (place + 1) 0 - 48) → (number < 100) × (drop place text ≡ two_digits number ++ drop (place + 2) text)
-pair_at_place text place number within tens ones is =
+pub pair_at_position : (text : List ℕ) (position number : ℕ) → position + 2 ≤ length text
+    → IsDigitByte (get_or text position 0) → IsDigitByte (get_or text (position + 1) 0)
+    → number ≡ 10 * (get_or text position 0 - 48) + (get_or text (position + 1) 0 - 48)
+    → (number < 100) × (drop position text ≡ two_digits number ++ drop (position + 2) text)
+pair_at_position text position number within tens ones is =
     let few : number < 100 = omega (arith, is, tens, ones) in
-    let first : get_or text place 0 ≡ 48 + number / 10 = omega (arith, is, tens, ones) in
-    let second : get_or text (place + 1) 0 ≡ 48 + number % 10 = omega (arith, is, tens, ones) in
-    let next : place + 1 + 1 ≡ place + 2 = omega arith in (
+    let first : get_or text position 0 ≡ 48 + number / 10 = omega (arith, is, tens, ones) in
+    let second : get_or text (position + 1) 0 ≡ 48 + number % 10 = omega (arith, is, tens, ones) in
+    let next : position + 1 + 1 ≡ position + 2 = omega arith in (
       few,
-      byte_at text place (omega (arith, within))
-          ∙ ap (λ rest. get_or text place 0 ∷ rest) (byte_at text (place + 1) (omega (arith, within)))
+      byte_at text position (omega (arith, within))
+          ∙ ap (λ rest. get_or text position 0 ∷ rest) (byte_at text (position + 1) (omega (arith, within)))
           ∙ rw (first, second, next, two_digits-below number few) refl,
     )
 
 -- hours and minutes at the end
-hours_and_minutes : (text : List ℕ) (h m : ℕ) → length text ≡ 35 → h < 100 → m ≤ 59 → drop 30 text ≡ two_digits h ++ drop 32 text → get_or text 32 0 ≡ 58
+hours_and_minutes : (text : List ℕ) (h m : ℕ) → length text ≡ 35 → h < 100 → m ≤ 59
+    → drop 30 text ≡ two_digits h ++ drop 32 text → get_or text 32 0 ≡ 58
     → drop 33 text ≡ two_digits m ++ drop 35 text → drop 30 text ≡ duration_text (3600 * h + 60 * m)
 hours_and_minutes text h m long few few' hours colon minutes =
     let s = 3600 * h + 60 * m in
     hours
     ∙ ap (λ rest. two_digits h ++ rest) (byte_at text 32 (omega (arith, long)) ∙ ap (λ b. b ∷ drop 33 text) colon
-    ∙ ap (λ rest. 58 ∷ rest) (minutes ∙ ap (λ rest. two_digits m ++ rest) (drop_of_length-le text {i = 35} (omega (arith, long))) ∙ append-nil (two_digits m)))
+    ∙ ap (λ rest. 58 ∷ rest) (minutes ∙ ap (λ rest. two_digits m ++ rest)
+    (drop_of_length-le text {i = 35} (omega (arith, long))) ∙ append-nil (two_digits m)))
     ∙ ap (λ n. two_digits n ++ 58 ∷ two_digits m) (omega arith)
     ∙ ap (λ n. two_digits (s / 3600) ++ 58 ∷ two_digits n) (omega arith)
     ∙ sym (duration_text-short s (omega arith) (omega arith))
@@ -50,15 +55,19 @@ unfolding offset_text
 negative_text zero above = absurd (omega (arith, above))
 negative_text (suc n) above = refl
 
-pub offset_ahead : (text : List ℕ) (h m : ℕ) (z : ℤ) → length text ≡ 35 → h < 100 → m ≤ 59 → drop 30 text ≡ two_digits h ++ drop 32 text → get_or text 32 0 ≡ 58
-    → drop 33 text ≡ two_digits m ++ drop 35 text → get_or text 29 0 ≡ 43 → 0 < 3600 * h + 60 * m → z ≡ pos (3600 * h + 60 * m) → drop 29 text ≡ offset_text z
+pub offset_ahead : (text : List ℕ) (h m : ℕ) (z : ℤ) → length text ≡ 35 → h < 100 → m ≤ 59
+    → drop 30 text ≡ two_digits h ++ drop 32 text → get_or text 32 0 ≡ 58
+    → drop 33 text ≡ two_digits m ++ drop 35 text → get_or text 29 0 ≡ 43 → 0 < 3600 * h + 60 * m
+    → z ≡ pos (3600 * h + 60 * m) → drop 29 text ≡ offset_text z
 offset_ahead text h m z long few few' hours colon minutes sign above is =
     byte_at text 29 (omega (arith, long)) ∙ ap (λ b. b ∷ drop 30 text) sign
     ∙ ap (λ rest. 43 ∷ rest) (hours_and_minutes text h m long few few' hours colon minutes)
     ∙ sym (positive_text (3600 * h + 60 * m) above) ∙ ap offset_text (sym is)
 
-pub offset_behind : (text : List ℕ) (h m : ℕ) (z : ℤ) → length text ≡ 35 → h < 100 → m ≤ 59 → drop 30 text ≡ two_digits h ++ drop 32 text → get_or text 32 0 ≡ 58
-    → drop 33 text ≡ two_digits m ++ drop 35 text → get_or text 29 0 ≡ 45 → 0 < 3600 * h + 60 * m → z ≡ neg_ℤ (pos (3600 * h + 60 * m)) → drop 29 text ≡ offset_text z
+pub offset_behind : (text : List ℕ) (h m : ℕ) (z : ℤ) → length text ≡ 35 → h < 100 → m ≤ 59
+    → drop 30 text ≡ two_digits h ++ drop 32 text → get_or text 32 0 ≡ 58
+    → drop 33 text ≡ two_digits m ++ drop 35 text → get_or text 29 0 ≡ 45 → 0 < 3600 * h + 60 * m
+    → z ≡ neg_ℤ (pos (3600 * h + 60 * m)) → drop 29 text ≡ offset_text z
 offset_behind text h m z long few few' hours colon minutes sign above is =
     byte_at text 29 (omega (arith, long)) ∙ ap (λ b. b ∷ drop 30 text) sign
     ∙ ap (λ rest. 45 ∷ rest) (hours_and_minutes text h m long few few' hours colon minutes)
@@ -67,11 +76,14 @@ offset_behind text h m z long few few' hours colon minutes sign above is =
 pub offset_of_utc : (text : List ℕ) → length text ≡ 30 → get_or text 29 0 ≡ 90 → drop 29 text ≡ offset_text (pos 0)
 unfolding offset_text
 offset_of_utc text long is =
-    byte_at text 29 (omega (arith, long)) ∙ ap (λ b. b ∷ drop 30 text) is ∙ ap (λ rest. 90 ∷ rest) (drop_of_length-le text {i = 30} (omega (arith, long)))
+    byte_at text 29 (omega (arith, long)) ∙ ap (λ b. b ∷ drop 30 text) is ∙ ap (λ rest. 90 ∷ rest)
+    (drop_of_length-le text {i = 30} (omega (arith, long)))
 
 -- nine digits, the first alone and then two at a time
-pub nine_from_pairs : (first a b c e n : ℕ) (rest : List ℕ) → first < 10 → a < 100 → b < 100 → c < 100 → e < 100 → n ≡ 100000000 * first + (1000000 * a + 10000 * b + 100 * c + e)
-    → (48 + first) ∷ (two_digits a ++ (two_digits b ++ (two_digits c ++ (two_digits e ++ rest)))) ≡ nine_digits n ++ rest
+pub nine_from_pairs : (first a b c e n : ℕ) (rest : List ℕ) → first < 10 → a < 100 → b < 100 → c < 100 → e < 100
+    → n ≡ 100000000 * first + (1000000 * a + 10000 * b + 100 * c + e)
+    → (48 + first) ∷ (two_digits a ++ (two_digits b ++ (two_digits c ++ (two_digits e ++ rest)))) ≡ nine_digits n
+    ++ rest
 unfolding two_digits
 nine_from_pairs first a b c e n rest few few-a few-b few-c few-e is =
     let below : n < 1000000000 = omega arith in
@@ -88,9 +100,10 @@ four_digits p q some few few' =
     let n = 100 * p + q in
     let front : n / 100 ≡ p = omega arith in
     let back : n % 100 ≡ q = omega arith in
-    sym (decimal-pairs n (omega arith) (omega arith) ∙ rw (front, back) (ap (λ ds. ds ++ two_digits q) (decimal-two_digits p some few)))
+    sym (decimal-pairs n (omega arith) (omega arith)
+    ∙ rw (front, back) (ap (λ ds. ds ++ two_digits q) (decimal-two_digits p some few)))
 
--- the parts of a printed text at their places
+-- the parts of a printed text at their positions
 pub record PrintedAt (text : List ℕ) (f : Fields) (z : ℤ) : Type 0 where
   pub year : text ≡ signed_decimal f.year ++ drop 4 text
   pub hyphen : drop 4 text ≡ 45 ∷ drop 5 text
@@ -107,28 +120,36 @@ pub record PrintedAt (text : List ℕ) (f : Fields) (z : ℤ) : Type 0 where
   pub nanoseconds : drop 20 text ≡ nine_digits f.nanoseconds ++ drop 29 text
   pub offset : drop 29 text ≡ offset_text z
 
-pub printed_from_places : (text : List ℕ) (f : Fields) (z : ℤ) → PrintedAt text f z → text ≡ printed_text f z
+pub printed_from_positions : (text : List ℕ) (f : Fields) (z : ℤ) → PrintedAt text f z → text ≡ printed_text f z
 unfolding after_year after_month after_date after_hour after_minute after_second
-printed_from_places text f z at =
-    let from_second : drop 19 text ≡ after_second f z = at.point ∙ ap (λ r. 46 ∷ r) (at.nanoseconds ∙ ap (λ r. nine_digits f.nanoseconds ++ r) at.offset) in
-    let from_minute : drop 16 text ≡ after_minute f z = at.second_colon ∙ ap (λ r. 58 ∷ r) (at.second ∙ ap (λ r. two_digits f.second ++ r) from_second) in
-    let from_hour : drop 13 text ≡ after_hour f z = at.colon ∙ ap (λ r. 58 ∷ r) (at.minute ∙ ap (λ r. two_digits f.minute ++ r) from_minute) in
-    let from_date : drop 10 text ≡ after_date f z = at.separator ∙ ap (λ r. 84 ∷ r) (at.hour ∙ ap (λ r. two_digits f.hour ++ r) from_hour) in
-    let from_month : drop 7 text ≡ after_month f z = at.second_hyphen ∙ ap (λ r. 45 ∷ r) (at.month_day ∙ ap (λ r. two_digits f.month_day ++ r) from_date) in
-    let from_year : drop 4 text ≡ after_year f z = at.hyphen ∙ ap (λ r. 45 ∷ r) (at.month ∙ ap (λ r. two_digits f.month ++ r) from_month) in
+printed_from_positions text f z at =
+    let from_second : drop 19 text ≡ after_second f z =
+    at.point ∙ ap (λ r. 46 ∷ r) (at.nanoseconds ∙ ap (λ r. nine_digits f.nanoseconds ++ r) at.offset) in
+    let from_minute : drop 16 text ≡ after_minute f z =
+    at.second_colon ∙ ap (λ r. 58 ∷ r) (at.second ∙ ap (λ r. two_digits f.second ++ r) from_second) in
+    let from_hour : drop 13 text ≡ after_hour f z =
+    at.colon ∙ ap (λ r. 58 ∷ r) (at.minute ∙ ap (λ r. two_digits f.minute ++ r) from_minute) in
+    let from_date : drop 10 text ≡ after_date f z =
+    at.separator ∙ ap (λ r. 84 ∷ r) (at.hour ∙ ap (λ r. two_digits f.hour ++ r) from_hour) in
+    let from_month : drop 7 text ≡ after_month f z =
+    at.second_hyphen ∙ ap (λ r. 45 ∷ r) (at.month_day ∙ ap (λ r. two_digits f.month_day ++ r) from_date) in
+    let from_year : drop 4 text ≡ after_year f z =
+    at.hyphen ∙ ap (λ r. 45 ∷ r) (at.month ∙ ap (λ r. two_digits f.month ++ r) from_month) in
     at.year ∙ ap (λ r. signed_decimal f.year ++ r) from_year ∙ sym (in_parts f z)
 
 -- a year of four digits at the beginning
-pub year_at : (text : List ℕ) (p q : ℕ) (y : ℤ) → 10 ≤ p → p < 100 → q < 100 → text ≡ two_digits p ++ drop 2 text → drop 2 text ≡ two_digits q ++ drop 4 text → y ≡ pos (100 * p + q)
+pub year_at : (text : List ℕ) (p q : ℕ) (y : ℤ) → 10 ≤ p → p < 100 → q < 100 → text ≡ two_digits p ++ drop 2 text
+    → drop 2 text ≡ two_digits q ++ drop 4 text → y ≡ pos (100 * p + q)
     → text ≡ signed_decimal y ++ drop 4 text
 year_at text p q y some few few' first second is =
     first ∙ ap (λ r. two_digits p ++ r) second ∙ sym (append_assoc (two_digits p) (two_digits q) (drop 4 text))
     ∙ ap (λ ds. ds ++ drop 4 text) (four_digits p q some few few' ∙ ap signed_decimal (sym is))
 
 -- a byte that is in a range of one
-pub only_byte : (text : List ℕ) (place b : ℕ) → place < length text → (b ≤ get_or text place 0) × (get_or text place 0 ≤ b) → drop place text ≡ b ∷ drop (place + 1) text
-only_byte text place b within is =
-    byte_at text place within ∙ ap (λ c. c ∷ drop (place + 1) text) (omega (arith, is))
+pub only_byte : (text : List ℕ) (position b : ℕ) → position < length text → (b ≤ get_or text position 0)
+    × (get_or text position 0 ≤ b) → drop position text ≡ b ∷ drop (position + 1) text
+only_byte text position b within is =
+    byte_at text position within ∙ ap (λ c. c ∷ drop (position + 1) text) (omega (arith, is))
 
 pub digit_byte : (b low high : ℕ) → 48 ≤ low → high ≤ 57 → (low ≤ b) × (b ≤ high) → IsDigitByte b
 digit_byte b low high from to is = (omega (arith, from, is), omega (arith, to, is))

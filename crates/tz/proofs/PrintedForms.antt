@@ -8,7 +8,7 @@ use Rattle.tz_rule.specs.LocalTimeType.{IsOffset}
 use Rattle.tz.specs.DateTimes.{IsUtc}
 use Rattle.tz.specs.DateTimeText.{date, duration, offset, time, IsDateTimeText}
 use Rattle.tz.specs.PrintedText.{printed_text}
-use Rattle.tz.specs.declared.parse.offset.OffsetMark.TheVariants.{Absent, Utc, Ahead, Behind}
+use Rattle.tz.specs.declared.parse.date_and_time.OffsetMark.TheVariants.{Absent, Utc, Ahead, Behind}
 use Rattle.tz.specs.declared.parse.parsed_date_time.ParsedDateTime.{ParsedDateTime}
 use Rattle.tz.proofs.ReadBack.{printed_is_read, utc_not_past}
 use Rattle.tz.proofs.TextValues.{fields_are_utc}
@@ -44,7 +44,8 @@ year_fits text between after rest d f
 pub printed_form_is_read : (text : List ℕ) (p : ParsedDateTime) (z : ℤ) → IsDateTimeText text p → p.ut_offset ≡ Some z
     → IsDateTimeText (printed_text p.local z) p
 printed_form_is_read text p z
-    (d, between, date_is, (_, after, _, (f, rest, time_is, (ut_offset, end, offset_is, (_, _, _, (parsed_is, _)))))) is =
+    (d, between, date_is, (_, after, _, (f, rest, time_is, (ut_offset, end, offset_is, (_, _, _, (parsed_is, _)))))) is
+    =
     let local_is : p.local ≡ f = ap (λ (q : ParsedDateTime). q.local) parsed_is in
     let offset_same : ut_offset ≡ Some z = sym (ap (λ (q : ParsedDateTime). q.ut_offset) parsed_is) ∙ is in
     let utc : IsUtc f = fields_are_utc text between after rest d f date_is time_is in

@@ -1,4 +1,5 @@
--- The parameters of `find_n` and `find_n_counted`, for their proofs by hand: what is left of each, how the machine stores it, and that it is of its type.
+-- The parameters of `find_n` and `find_n_counted`, for their proofs by hand: what is left of each, how the machine
+-- stores it, and that it is of its type.
 use Rattle.std.proofs.Common.{refl, List, [], ◌∷◌, w8, w32}
 use seplogic.Ra.Ura.{Ura}
 use mir.Syntax.{named}
@@ -41,8 +42,14 @@ kept = (no, (yes, (yes, (yes, (yes, (yes, (yes, (yes, (yes, tt)))))))))
 -- nothing is left of them: the slots are passed on, and the rest is not needed
 abbrev pub stayed : Stays params kept
 stayed =
-    let b = stay_dropped byte yes in
-    (stay_dropped lent_slots no, (stay_dropped year yes, (b, (b, (b, (b, (b, (stay_dropped nanoseconds yes, (stay_dropped zone_slot yes, tt)))))))))
+    let b = stay_dropped byte yes in (
+      stay_dropped lent_slots no,
+      (
+        stay_dropped year
+            yes,
+        (b, (b, (b, (b, (b, (stay_dropped nanoseconds yes, (stay_dropped zone_slot yes, tt))))))),
+      ),
+    )
 
 -- each has one machine value, which its value determines
 abbrev pub spelled : (κs : Lfts 2) → Spells (types_at params κs)
@@ -52,8 +59,14 @@ spelled κs =
 
 pub spelled_tells : (κs : Lfts 2) → Tellss (types_at params κs) (Ises (types_at params κs)) (spelled κs)
 spelled_tells κs =
-    let b = uint_Tells w8 in
-    (mut_slice_Tells (named 0) κs.0 slot_row, (sint_Tells w32, (b, (b, (b, (b, (b, (uint_Tells w32, ((zone_laws.lowers (named_lft 2 1 tt κs)).val_is, tt)))))))))
+    let b = uint_Tells w8 in (
+      mut_slice_Tells (named 0) κs.0 slot_row,
+      (
+        sint_Tells
+            w32,
+        (b, (b, (b, (b, (b, (uint_Tells w32, ((zone_laws.lowers (named_lft 2 1 tt κs)).val_is, tt))))))),
+      ),
+    )
 
 module _ {M : Type 1} {𝓤 : Ura M} (𝓛 : Logic 𝓤) where
   pub gone : AllGo 𝓛 2 params kept stayed
@@ -72,7 +85,14 @@ module _ {M : Type 1} {𝓤 : Ura M} (𝓛 : Logic 𝓤) where
                   b,
                   (
                     b,
-                    (Goes-dropped 𝓛 2 nanoseconds yes (λ κs x w. refl), (Goes-dropped 𝓛 2 zone_slot yes (λ κs x w. refl), tt)),
+                    (
+                      Goes-dropped 𝓛 2 nanoseconds yes (λ κs x w. refl),
+                      (
+                        Goes-dropped 𝓛 2 zone_slot yes
+                            (λ κs x w. refl),
+                        tt,
+                      ),
+                    ),
                   ),
                 ),
               ),
@@ -83,5 +103,14 @@ module _ {M : Type 1} {𝓤 : Ura M} (𝓛 : Logic 𝓤) where
 
   pub lawful : (κs : Lfts 2) → Lawfuls 𝓛 (types_at params κs)
   lawful κs =
-      let b = uint_Lawful 𝓛 w8 in
-      (mut_slice_Lawful 𝓛 (named 0) κs.0 slot_row, (sint_Lawful 𝓛 w32, (b, (b, (b, (b, (b, (uint_Lawful 𝓛 w32, ((zone_laws.the_row_laws (named_lft 2 1 tt κs)).lawful 𝓛, tt)))))))))
+      let b = uint_Lawful 𝓛 w8 in (
+        mut_slice_Lawful 𝓛 (named 0) κs.0 slot_row,
+        (
+          sint_Lawful 𝓛
+              w32,
+          (
+            b,
+            (b, (b, (b, (b, (uint_Lawful 𝓛 w32, ((zone_laws.the_row_laws (named_lft 2 1 tt κs)).lawful 𝓛, tt)))))),
+          ),
+        ),
+      )

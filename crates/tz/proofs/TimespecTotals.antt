@@ -6,19 +6,30 @@ use Rattle.tz_base.specs.Fields.{IsReading, IsTimespec, total_nanoseconds_of}
 use Rattle.tz.specs.DateTimes.{IsUtcTotal}
 
 pub timespec_exists : (total : ℤ) → (seconds : ℤ) × (nanoseconds : ℕ) × IsTimespec total seconds nanoseconds
-timespec_exists (pos n) = (pos (n / 1000000000), n % 1000000000, record { whole = omega (arith, ints); part = omega arith })
-timespec_exists (negsuc n) = (negsuc (n / 1000000000), 999999999 - n % 1000000000, record { whole = omega (arith, ints); part = omega arith })
+timespec_exists (pos n) = (
+  pos (n / 1000000000),
+  n % 1000000000,
+  record { whole = omega (arith, ints); part = omega arith },
+)
+timespec_exists (negsuc n) = (
+  negsuc (n / 1000000000),
+  999999999 - n % 1000000000,
+  record { whole = omega (arith, ints); part = omega arith },
+)
 
 -- the total a is that of seconds and nanoseconds, to which n nanoseconds are added
 module _ (o : Option (ℤ × ℕ)) (a seconds : ℤ) (nanoseconds n added rest : ℕ) where
-  after_is : added ≡ n / 1000000000 → rest ≡ n % 1000000000 → a ≡ pos 1000000000 *ℤ (seconds +ℤ pos added) +ℤ pos (nanoseconds + rest)
+  after_is : added ≡ n / 1000000000 → rest ≡ n % 1000000000
+      → a ≡ pos 1000000000 *ℤ (seconds +ℤ pos added) +ℤ pos (nanoseconds + rest)
       → a ≡ total_nanoseconds_of seconds nanoseconds +ℤ pos n
   after_is whole over is = omega (arith, ints)
 
-  pub timespec_later : IfSome o (λ t. IsReading t.0 × IsTimespec a t.0 t.1) → added ≡ n / 1000000000 → rest ≡ n % 1000000000
+  pub timespec_later : IfSome o (λ t. IsReading t.0 × IsTimespec a t.0 t.1) → added ≡ n / 1000000000
+      → rest ≡ n % 1000000000
       → a ≡ pos 1000000000 *ℤ (seconds +ℤ pos added) +ℤ pos (nanoseconds + rest)
       → IfSome o (λ t. IsReading t.0 × IsTimespec (total_nanoseconds_of seconds nanoseconds +ℤ pos n) t.0 t.1)
-  timespec_later h whole over is = subst (λ (x : ℤ). IfSome o (λ t. IsReading t.0 × IsTimespec x t.0 t.1)) (after_is whole over is) h
+  timespec_later h whole over is = subst (λ (x : ℤ). IfSome o (λ t. IsReading t.0 × IsTimespec x t.0 t.1))
+      (after_is whole over is) h
 
   pub range_later : IsSome o ↔ IsUtcTotal a → added ≡ n / 1000000000 → rest ≡ n % 1000000000
       → a ≡ pos 1000000000 *ℤ (seconds +ℤ pos added) +ℤ pos (nanoseconds + rest)
@@ -27,14 +38,17 @@ module _ (o : Option (ℤ × ℕ)) (a seconds : ℤ) (nanoseconds n added rest :
 
 -- n nanoseconds are taken off, and a second is borrowed
 module _ (o : Option (ℤ × ℕ)) (a seconds : ℤ) (nanoseconds n taken rest : ℕ) where
-  before_is : taken ≡ n / 1000000000 → rest ≡ n % 1000000000 → a ≡ pos 1000000000 *ℤ (seconds -ℤ pos taken -ℤ pos 1) +ℤ pos (nanoseconds + 1000000000 - rest)
+  before_is : taken ≡ n / 1000000000 → rest ≡ n % 1000000000
+      → a ≡ pos 1000000000 *ℤ (seconds -ℤ pos taken -ℤ pos 1) +ℤ pos (nanoseconds + 1000000000 - rest)
       → a ≡ total_nanoseconds_of seconds nanoseconds -ℤ pos n
   before_is whole over is = omega (arith, ints)
 
-  pub timespec_earlier : IfSome o (λ t. IsReading t.0 × IsTimespec a t.0 t.1) → taken ≡ n / 1000000000 → rest ≡ n % 1000000000
+  pub timespec_earlier : IfSome o (λ t. IsReading t.0 × IsTimespec a t.0 t.1) → taken ≡ n / 1000000000
+      → rest ≡ n % 1000000000
       → a ≡ pos 1000000000 *ℤ (seconds -ℤ pos taken -ℤ pos 1) +ℤ pos (nanoseconds + 1000000000 - rest)
       → IfSome o (λ t. IsReading t.0 × IsTimespec (total_nanoseconds_of seconds nanoseconds -ℤ pos n) t.0 t.1)
-  timespec_earlier h whole over is = subst (λ (x : ℤ). IfSome o (λ t. IsReading t.0 × IsTimespec x t.0 t.1)) (before_is whole over is) h
+  timespec_earlier h whole over is = subst (λ (x : ℤ). IfSome o (λ t. IsReading t.0 × IsTimespec x t.0 t.1))
+      (before_is whole over is) h
 
   pub range_earlier : IsSome o ↔ IsUtcTotal a → taken ≡ n / 1000000000 → rest ≡ n % 1000000000
       → a ≡ pos 1000000000 *ℤ (seconds -ℤ pos taken -ℤ pos 1) +ℤ pos (nanoseconds + 1000000000 - rest)

@@ -8,7 +8,7 @@ use Rattle.tz.specs.Found.{Clock, IsFound, IsFoundBy, CanBeMade, EachCanBeMade, 
 use Rattle.tz.specs.declared.datetime.found.FoundDateTimeKind.{FoundDateTimeKind}
 
 module _ {X : Type 0} (at : X → ℤ) where
-  -- each of the list is at an earlier place than those after it
+  -- each of the list is at an earlier position than those after it
   abbrev Rises : List X → Type 0
   Rises xs = AllPairs (λ x y. at x <ℤ at y) xs
 
@@ -35,14 +35,21 @@ module _ {X : Type 0} (at : X → ℤ) where
   nothing_contains x (k, within, is) = omega (arith, within)
 
   -- the lists begin alike
-  first_same : (x y : X) (xs ys : List X) → Rises (x ∷ xs) → Rises (y ∷ ys) → Contains (y ∷ ys) x → Contains (x ∷ xs) y → x ≡ y
+  first_same : (x y : X) (xs ys : List X) → Rises (x ∷ xs) → Rises (y ∷ ys) → Contains (y ∷ ys) x → Contains (x ∷ xs) y
+      → x ≡ y
   first_same x y xs ys rises rises' has has' = both (first_or_more y ys x has) (first_or_more x xs y has')
     where
       both : (y ≡ x) ⊎ Contains ys x → (x ≡ y) ⊎ Contains xs y → x ≡ y
       both (inl same) other = sym same
       both (inr later) (inl same) = same
       both (inr later) (inr later') =
-          absurd (omega (arith, ints, All-contains (λ z. at y <ℤ at z) ys x (first_below y ys rises') later, All-contains (λ z. at x <ℤ at z) xs y (first_below x xs rises) later'))
+          absurd (omega (
+            arith,
+            ints,
+            All-contains (λ z. at y <ℤ at z) ys x (first_below y ys rises') later,
+            All-contains
+                (λ z. at x <ℤ at z) xs y (first_below x xs rises) later',
+          ))
 
   -- what comes after the first is no first one
   rest_within : (x : X) (xs ys : List X) → Rises (x ∷ xs) → IsWithin (x ∷ xs) (x ∷ ys) → IsWithin xs ys
@@ -59,19 +66,23 @@ module _ {X : Type 0} (at : X → ℤ) where
   rising_unique [] (y ∷ ys) rises rises' within within' = absurd (nothing_contains y (within' y (contains_first y ys)))
   rising_unique (x ∷ xs) [] rises rises' within within' = absurd (nothing_contains x (within x (contains_first x xs)))
   rising_unique (x ∷ xs) (y ∷ ys) rises rises' within within' =
-      let same : y ≡ x = sym (first_same x y xs ys rises rises' (within x (contains_first x xs)) (within' y (contains_first y ys))) in
+      let same : y ≡ x = sym (first_same x y xs ys rises rises' (within x (contains_first x xs))
+      (within' y (contains_first y ys))) in
       let rises-same = subst (λ z. Rises (z ∷ ys)) same rises' in
       let within-same = subst (λ z. IsWithin (x ∷ xs) (z ∷ ys)) same within in
       let within-same' = subst (λ z. IsWithin (z ∷ ys) (x ∷ xs)) same within' in
-      let more = rising_unique xs ys (rest_rises x xs rises) (rest_rises x ys rises-same) (rest_within x xs ys rises within-same) (rest_within x ys xs rises-same within-same') in
+      let more = rising_unique xs ys (rest_rises x xs rises) (rest_rises x ys rises-same)
+      (rest_within x xs ys rises within-same) (rest_within x ys xs rises-same within-same') in
       ap (λ zs. x ∷ zs) more ∙ ap (λ z. z ∷ ys) (sym same)
 
 -- if each entry of the list can be made, each entry can
-pub each_from_list : (clock : Clock) (f : Fields) (found : List FoundDateTimeKind) → IsFound clock f found → All CanBeMade found → EachCanBeMade clock f
+pub each_from_list : (clock : Clock) (f : Fields) (found : List FoundDateTimeKind) → IsFound clock f found
+    → All CanBeMade found → EachCanBeMade clock f
 each_from_list clock f found is made e by = All-contains CanBeMade found e made (is.complete e by)
 
 -- two lists of all that is found are the same
-pub found_unique : (clock : Clock) (f : Fields) (found others : List FoundDateTimeKind) → IsFound clock f found → IsFound clock f others → found ≡ others
+pub found_unique : (clock : Clock) (f : Fields) (found others : List FoundDateTimeKind) → IsFound clock f found
+    → IsFound clock f others → found ≡ others
 found_unique clock f found others is is' =
     rising_unique instant_of found others is.in_order is'.in_order
     (λ e has. is'.complete e (All-contains (IsFoundBy clock f) found e is.sound has))

@@ -8,20 +8,33 @@ use Rattle.tz_zone.specs.LeapTime.{IsInstant, IsLeapTime, IsTimeReached, IsEffec
 use Rattle.tz_zone.specs.ClockSegments.{from_start}
 use Rattle.tz_zone.specs.ClockSpans.{IsStage}
 use Rattle.tz_zone.specs.ValidZone.{AreLeapSeconds, IsSoundTable}
-use Rattle.tz_zone.specs.declared.clock.span_walk.Stage.{Stage}
+use Rattle.tz_zone.specs.declared.clock.window_types.Stage.{Stage}
 use Rattle.tz_zone.proofs.LeapTimes.{IsInstant-from_bounds, instant_bounds, leap_time_mono}
-use Rattle.tz_zone.proofs.PlaceRuns.{some_transitions}
+use Rattle.tz_zone.proofs.PositionRuns.{some_transitions}
 use Rattle.tz_zone.proofs.InstantsWithLeapTime.{defined_between, leap_time_low, leap_unless_refused}
 use Rattle.tz.specs.Windows.{TakesEffectIn, AtMostTakeEffectIn, first_looks}
 use Rattle.tz.proofs.ReadingWindows.{as_many_as_passed}
 
--- a leap time that is ahead at one instant and reached at another takes effect after the first, and not after the second
-module _ (leaps : List LeapSecond) (are : AreLeapSeconds leaps) (v first l : ℤ) (fits : IsInstant first) (leap : IsLeapTime leaps first l) (ahead : l <ℤ v) where
-  effect_within : (n : ℕ) (at : ℤ) → at ≡ first +ℤ pos n → at ≤ℤ pos 9223372036854775807 → IsTimeReached leaps v at → (u : ℤ) × IsEffect leaps v u × (first ≤ℤ u) × (u ≤ℤ at)
-  effect_within zero at is high reached = absurd (omega (arith, ints, ahead, reached.2, leap_time_mono leaps are at first reached.0 l (omega (arith, ints, is)) reached.1 leap))
+-- a leap time that is ahead at one instant and reached at another takes effect after the first, and not after the
+-- second
+module _ (leaps : List LeapSecond) (are : AreLeapSeconds leaps) (v first l : ℤ) (fits : IsInstant first)
+    (leap : IsLeapTime leaps first l) (ahead : l <ℤ v) where
+  effect_within : (n : ℕ) (at : ℤ) → at ≡ first +ℤ pos n → at ≤ℤ pos 9223372036854775807
+      → IsTimeReached leaps v at → (u : ℤ) × IsEffect leaps v u × (first ≤ℤ u) × (u ≤ℤ at)
+  effect_within zero at is high reached =
+      absurd (omega (
+        arith,
+        ints,
+        ahead,
+        reached.2,
+        leap_time_mono leaps are at first reached.0 l (omega (arith, ints, is)) reached.1
+            leap,
+      ))
   effect_within (suc n) at is high reached =
       let earlier : first +ℤ pos n ≡ at -ℤ pos 1 = omega (arith, ints, is) in
-      let here = leap_unless_refused leaps are (first +ℤ pos n) (defined_between leaps are first at (first +ℤ pos n) leap.not_refused reached.1.not_refused (omega (arith, ints)) (omega (arith, ints, is))) in
+      let here = leap_unless_refused leaps are (first +ℤ pos n)
+      (defined_between leaps are first at (first +ℤ pos n) leap.not_refused reached.1.not_refused
+      (omega (arith, ints)) (omega (arith, ints, is))) in
       by_lt_z here.0 v
       (λ before. (
         at,
@@ -30,13 +43,21 @@ module _ (leaps : List LeapSecond) (are : AreLeapSeconds leaps) (v first l : ℤ
           instant = IsInstant-from_bounds at (omega (arith, ints, is, (instant_bounds first fits).0)) high;
           reached = reached;
           least = λ w there. by_lt_z w at
-              (λ h. absurd (omega (arith, ints, before, there.2, leap_time_mono leaps are w (first +ℤ pos n) there.0 here.0 (omega (arith, ints, h, earlier)) there.1 here.1)))
+              (λ h. absurd (omega (
+                arith,
+                ints,
+                before,
+                there.2,
+                leap_time_mono leaps are w (first +ℤ pos n) there.0 here.0
+                    (omega (arith, ints, h, earlier)) there.1 here.1,
+              )))
               (λ h. h);
         },
         omega (arith, ints, is),
         omega (arith, ints),
       ))
-      (λ from. let found = effect_within n (first +ℤ pos n) refl (omega (arith, ints, earlier, high)) (here.0, here.1, from) in
+      (λ from. let found = effect_within n (first +ℤ pos n) refl (omega (arith, ints, earlier, high))
+      (here.0, here.1, from) in
       (found.0, found.1, found.2, omega (arith, ints, found.3, earlier)))
 
   distance : (a b : ℤ) → a ≤ℤ b → (n : ℕ) × (b ≡ a +ℤ pos n)
@@ -46,40 +67,62 @@ module _ (leaps : List LeapSecond) (are : AreLeapSeconds leaps) (v first l : ℤ
       by_sign (pos n) e = (n, omega (arith, ints, e))
       by_sign (negsuc n) e = absurd (omega (arith, ints, e, order))
 
-  pub takes_effect : (at : ℤ) → at ≤ℤ pos 9223372036854775807 → IsTimeReached leaps v at → (u : ℤ) × IsEffect leaps v u × (first ≤ℤ u) × (u ≤ℤ at)
+  pub takes_effect : (at : ℤ) → at ≤ℤ pos 9223372036854775807 → IsTimeReached leaps v at → (u : ℤ) × IsEffect leaps v u
+      × (first ≤ℤ u) × (u ≤ℤ at)
   takes_effect at high reached =
-      let order : first ≤ℤ at = by_lt_z at first (λ h. absurd (omega (arith, ints, ahead, reached.2, leap_time_mono leaps are at first reached.0 l (omega (arith, ints, h)) reached.1 leap))) (λ h. h) in
+      let order : first ≤ℤ at = by_lt_z at first
+      (λ h. absurd (omega (
+        arith,
+        ints,
+        ahead,
+        reached.2,
+        leap_time_mono leaps are at first reached.0 l (omega (arith, ints, h))
+            reached.1 leap,
+      ))) (λ h. h) in
       let (n, is) = distance first at order in
       effect_within n at is high reached
 
--- the looks of a walk, by the place at which it began and that to which it has come
-pub record AreLooks (z : Zone) (low high : ℤ) (start before looks place : ℕ) : Type 0 where
+-- the looks of a walk, by the position at which it began and that to which it has come
+pub record AreLooks (z : Zone) (low high : ℤ) (start before looks position : ℕ) : Type 0 where
   pub kept : before ≤ looks
-  pub onward : start ≤ place
-  pub passed : looks + start ≤ before + place
+  pub onward : start ≤ position
+  pub passed : looks + start ≤ before + position
   pub few : (w : ℕ) → AtMostTakeEffectIn z low high w → looks ≤ before + (w + 1)
   pub none : z.transitions ≡ [] → looks ≡ before
 
 pub looks_at_first : (z : Zone) (low high : ℤ) (start before : ℕ) → AreLooks z low high start before before start
-looks_at_first z low high start before = record { kept = omega arith; onward = omega arith; passed = omega arith; few = λ w most. omega arith; none = λ empty. refl }
+looks_at_first z low high start before = record {
+  kept = omega arith;
+  onward = omega arith;
+  passed = omega arith;
+  few = λ w most. omega arith;
+  none = λ empty. refl;
+}
 
 -- all transitions that a walk has passed take effect in the window, and the next one may take effect after it
-module _ (z : Zone) (sound : IsSoundTable z) (low high : ℤ) (reach : high ≤ℤ pos 80000000000000000) (first : ℤ) (from : low ≤ℤ first) (start : Stage) (begin : IsStage z first first start)
+module _ (z : Zone) (sound : IsSoundTable z) (low high : ℤ) (reach : high ≤ℤ pos 80000000000000000) (first : ℤ)
+    (from : low ≤ℤ first) (start : Stage) (begin : IsStage z first first start)
     (since : ℤ) (stage : Stage) (is : IsStage z first since stage) (up_to : since ≤ℤ high) where
-  passed_take_effect : (i : ℕ) → start.place ≤ i → i < stage.place → TakesEffectIn z low high i
+  passed_take_effect : (i : ℕ) → start.position ≤ i → i < stage.position → TakesEffectIn z low high i
   passed_take_effect i above below =
       let change = get_or z.transitions i from_start in
-      let at_i : slice_get z.transitions i ≡ Some change = slice_get-get_or z.transitions i from_start (omega (arith, below, is.within)) in
+      let at_i : slice_get z.transitions i ≡ Some change =
+      slice_get-get_or z.transitions i from_start (omega (arith, below, is.within)) in
       let some : z.transitions ≢ [] = some_transitions z.transitions i (omega (arith, below, is.within)) in
       let here = begin.ahead some in
       let there = is.reached some in
-      let found = takes_effect z.leap_seconds sound.leap_seconds_are change.unix_leap_time first here.0 begin.instant here.1 (here.2 i change above at_i) since (omega (arith, ints, up_to, reach)) (there.0, there.1, there.2 i change below at_i) in
+      let found = takes_effect z.leap_seconds sound.leap_seconds_are change.unix_leap_time first here.0 begin.instant
+      here.1 (here.2 i change above at_i) since (omega (arith, ints, up_to, reach))
+      (there.0, there.1, there.2 i change below at_i) in
       (change, found.0, at_i, found.1, omega (arith, ints, from, found.2), omega (arith, ints, found.3, up_to))
 
-  pub looks_on : {A : Type 0} (before looks next place : ℕ) → AreLooks z low high start.place before looks stage.place → looks ≤ next → next + stage.place ≤ looks + place
-      → ((place ≡ stage.place) × A) ⊎ (place ≡ stage.place + 1) → place ≤ length z.transitions → AreLooks z low high start.place before next place
-  looks_on before looks next place are kept passed onward within =
-      let more : (stage.place ≤ place) × (place ≤ stage.place + 1) = elim onward [
+  pub looks_on : {A : Type 0} (before looks next position : ℕ)
+      → AreLooks z low high start.position before looks stage.position → looks ≤ next
+      → next + stage.position ≤ looks + position
+      → ((position ≡ stage.position) × A) ⊎ (position ≡ stage.position + 1) → position ≤ length z.transitions
+      → AreLooks z low high start.position before next position
+  looks_on before looks next position are kept passed onward within =
+      let more : (stage.position ≤ position) × (position ≤ stage.position + 1) = elim onward [
         | inl same ↦ (omega (arith, same.0), omega (arith, same.0))
         | inr one ↦ (omega (arith, one), omega (arith, one))
       ] in
@@ -87,13 +130,22 @@ module _ (z : Zone) (sound : IsSoundTable z) (low high : ℤ) (reach : high ≤�
         kept = omega (arith, are.kept, kept);
         onward = omega (arith, are.onward, more.0);
         passed = omega (arith, are.passed, passed);
-        few = λ w most. omega (arith, are.passed, passed, more.1, as_many_as_passed z low high w most start.place stage.place are.onward passed_take_effect);
+        few = λ w most. omega (
+          arith,
+          are.passed,
+          passed,
+          more.1,
+          as_many_as_passed z low high w most start.position stage.position
+              are.onward passed_take_effect,
+        );
         none = λ empty. omega (arith, are.none empty, kept, passed, within, more.0, ap length empty);
       }
 
 -- with those that it took to begin
-pub looks_in_all : (place : Option ℕ) (n old before looks b w : ℕ) → n < 2 ^ b → IfSome place (λ k. before ≤ old + 1) → ((b : ℕ) → n < 2 ^ b → before ≤ old + (b + 2)) → looks ≤ before + (w + 1)
-    → looks ≤ old + (first_looks place b + w)
+pub looks_in_all : (position : Option ℕ) (n old before looks b w : ℕ) → n < 2 ^ b
+    → IfSome position (λ k. before ≤ old + 1) → ((b : ℕ) → n < 2 ^ b → before ≤ old + (b + 2))
+    → looks ≤ before + (w + 1)
+    → looks ≤ old + (first_looks position b + w)
 looks_in_all None n old before looks b w bits known few more = omega (arith, few b bits, more)
 looks_in_all (Some k) n old before looks b w bits known few more = omega (arith, known, more)
 

@@ -1,4 +1,5 @@
--- Texts of date times: RFC 3339, section 5.6, with years and offsets as they are printed, and with or without an offset.
+-- Texts of date times: RFC 3339, section 5.6, with years and offsets as they are printed, and with
+-- or without an offset.
 use Rattle.std.specs.Prelude.{◌≡◌, ℕ, ◌+◌, ◌-◌, ◌*◌, ◌^◌, ◌<◌, ◌≤◌, ◌⊎◌, ℤ, pos, neg_ℤ, ◌-ℤ◌, List, [], ◌∷◌, ◌++◌, length, Option, Some, None, FitsSigned}
 use Rattle.std.specs.Char.{digit_value}
 use Rattle.std.specs.Fmt.{decimal}
@@ -14,8 +15,8 @@ use Rattle.tz.specs.Grammars.{Grammar, one, ◌▸◌, done}
 use Rattle.tz.specs.declared.parse.error.DateTimePart.{DateTimePart}
 use Rattle.tz.specs.declared.parse.error.DateTimePart.TheVariants as parts
 use Rattle.tz.specs.declared.parse.error.ParseDateTimeError.{ParseDateTimeError}
-use Rattle.tz.specs.declared.parse.offset.OffsetMark.{OffsetMark}
-use Rattle.tz.specs.declared.parse.offset.OffsetMark.TheVariants.{Absent, Utc, Ahead, Behind}
+use Rattle.tz.specs.declared.parse.date_and_time.OffsetMark.{OffsetMark}
+use Rattle.tz.specs.declared.parse.date_and_time.OffsetMark.TheVariants.{Absent, Utc, Ahead, Behind}
 use Rattle.tz.specs.declared.parse.parsed_date_time.ParsedDateTime.{ParsedDateTime}
 
 -- no digit stands first
@@ -31,7 +32,8 @@ pub record IsDigits (text digits rest : List ℕ) : Type 0 where
 
 -- a number of two digits, in a range
 abbrev pub IsPair : ℕ → ℕ → List ℕ → ℕ → List ℕ → Type 0
-IsPair least greatest text n rest = (n < 100) × (text ≡ two_digits n ++ rest) × (least ≤ n) × (n ≤ greatest)
+IsPair least greatest text n rest = (n < 100) × (text ≡ two_digits n ++ rest) × (least ≤ n)
+    × (n ≤ greatest)
 
 -- four digits or more, or those of a number as it is printed
 abbrev pub AreYearDigits : List ℕ → Type 0
@@ -42,7 +44,8 @@ abbrev pub IsYear : List ℕ → ℤ → List ℕ → Type 0
 IsYear text y rest =
     (digits : List ℕ) × AreYearDigits digits × FitsSigned w32 y
     × ((IsDigits text digits rest × (y ≡ pos (digits_value 10 digits)))
-    ⊎ ((unsigned : List ℕ) × (text ≡ 45 ∷ unsigned) × IsDigits unsigned digits rest × (y ≡ neg_ℤ (pos (digits_value 10 digits)))))
+    ⊎ ((unsigned : List ℕ) × (text ≡ 45 ∷ unsigned) × IsDigits unsigned digits rest
+    × (y ≡ neg_ℤ (pos (digits_value 10 digits)))))
 
 -- a byte
 abbrev pub IsByte : ℕ → List ℕ → Unit {0} → List ℕ → Type 0
@@ -52,11 +55,13 @@ IsByte byte text value rest = text ≡ byte ∷ rest
 abbrev pub IsSeparator : List ℕ → Unit {0} → List ℕ → Type 0
 IsSeparator text value rest = (text ≡ 84 ∷ rest) ⊎ (text ≡ 116 ∷ rest) ⊎ (text ≡ 32 ∷ rest)
 
--- the nanoseconds of a fraction of a second: of the digits after a point, the first counts tenths; 0 without a point
+-- the nanoseconds of a fraction of a second: of the digits after a point, the first counts tenths;
+-- 0 without a point
 abbrev pub IsFraction : List ℕ → ℕ → List ℕ → Type 0
 IsFraction text n rest =
     (¬ Begins 46 text × (n ≡ 0) × (rest ≡ text))
-    ⊎ ((after : List ℕ) × (digits : List ℕ) × (text ≡ 46 ∷ after) × IsDigits after digits rest × (1 ≤ length digits) × (length digits ≤ 9)
+    ⊎ ((after : List ℕ) × (digits : List ℕ) × (text ≡ 46 ∷ after) × IsDigits after digits rest
+    × (1 ≤ length digits) × (length digits ≤ 9)
     × (n ≡ digits_value 10 digits * 10 ^ (9 - length digits)))
 
 abbrev pub byte : DateTimePart → ℕ → Grammar (Unit {0})
@@ -75,7 +80,8 @@ date =
 -- a second of the minute of the fields: to 60, but to 59 in the last minute of all
 abbrev pub IsSecond : Fields → ℕ → ℕ → List ℕ → ℕ → List ℕ → Type 0
 IsSecond f hour minute text second rest =
-    IsPair 0 60 text second rest × ¬ IsPastTheEnd (fields_of f.year f.month f.month_day hour minute second 0)
+    IsPair 0 60 text second rest × ¬ IsPastTheEnd
+    (fields_of f.year f.month f.month_day hour minute second 0)
 
 -- partial-time: the fields with it
 abbrev pub time : Fields → Grammar Fields
@@ -95,17 +101,21 @@ IsMark text Utc rest = (text ≡ 90 ∷ rest) ⊎ (text ≡ 122 ∷ rest)
 IsMark text Ahead rest = text ≡ 43 ∷ rest
 IsMark text Behind rest = text ≡ 45 ∷ rest
 
--- hours of two digits or more; with them, and then with minutes and seconds, an offset is below 2^31 seconds
+-- hours of two digits or more; with them, and then with minutes and seconds, an offset is below
+-- 2^31 seconds
 abbrev pub IsHours : List ℕ → ℕ → List ℕ → Type 0
 IsHours text hours rest =
-    (digits : List ℕ) × IsDigits text digits rest × (2 ≤ length digits) × (hours ≡ digits_value 10 digits) × (3600 * hours < 2 ^ 31)
+    (digits : List ℕ) × IsDigits text digits rest × (2 ≤ length digits)
+    × (hours ≡ digits_value 10 digits) × (3600 * hours < 2 ^ 31)
 
 abbrev pub IsMinutes : ℕ → List ℕ → ℕ → List ℕ → Type 0
-IsMinutes hours text minutes rest = IsPair 0 59 text minutes rest × (3600 * hours + 60 * minutes < 2 ^ 31)
+IsMinutes hours text minutes rest = IsPair 0 59 text minutes rest
+    × (3600 * hours + 60 * minutes < 2 ^ 31)
 
 abbrev pub IsSeconds : ℕ → ℕ → List ℕ → ℕ → List ℕ → Type 0
 IsSeconds hours minutes text seconds rest =
-    ((¬ Begins 58 text × (seconds ≡ 0) × (rest ≡ text)) ⊎ ((after : List ℕ) × (text ≡ 58 ∷ after) × IsPair 0 59 after seconds rest))
+    ((¬ Begins 58 text × (seconds ≡ 0) × (rest ≡ text))
+    ⊎ ((after : List ℕ) × (text ≡ 58 ∷ after) × IsPair 0 59 after seconds rest))
     × (3600 * hours + 60 * minutes + seconds < 2 ^ 31)
 
 -- time-numoffset without its sign, in seconds
@@ -153,6 +163,7 @@ IsTextOf text d =
     × (p.local ≡ d.fields) × (p.ut_offset ≡ Some d.local_time_type.ut_offset)
     × ((reading p.local -ℤ d.local_time_type.ut_offset) ≡ d.unix_time)
 
--- the text is none, because of this part at this byte: as many bytes stand before its place
+-- the text is none, because of this part at this byte: as many bytes stand before its position
 abbrev pub IsDateTimeTextFault : List ℕ → ParseDateTimeError → Type 0
-IsDateTimeTextFault text e = (rest : List ℕ) × date_time.misses text e.expected rest × (e.position + length rest ≡ length text)
+IsDateTimeTextFault text e = (rest : List ℕ) × date_time.misses text e.expected rest
+    × (e.position + length rest ≡ length text)

@@ -42,7 +42,8 @@ pub record IsUtc (f : Fields) : Type 0 where
 
 -- the last second of all, which is second 60 and reads as the next year's first
 abbrev pub IsPastTheEnd : Fields → Type 0
-IsPastTheEnd f = (f.year ≡ pos 2147483647) × (f.month ≡ 12) × (f.month_day ≡ 31) × (f.hour ≡ 23) × (f.minute ≡ 59) × (f.second ≡ 60)
+IsPastTheEnd f = (f.year ≡ pos 2147483647) × (f.month ≡ 12) × (f.month_day ≡ 31) × (f.hour ≡ 23)
+    × (f.minute ≡ 59) × (f.second ≡ 60)
 
 -- date times are compared by Unix time and then by nanoseconds
 abbrev pub moment_eq : DateTime → DateTime → Bool
@@ -53,7 +54,9 @@ moment_cmp = then_cmp (on (λ d. d.unix_time) int_cmp) (on (λ d. d.fields.nanos
 
 -- why fields are no UTC date time: they read past the end, or else their first fault
 abbrev pub IsUtcFault : Fields → TzError → Type 0
-IsUtcFault f e = ((e ≡ faults.OutOfRange) × IsPastTheEnd f) ⊎ ((fault : DateTimeError) × (e ≡ faults.DateTime fault) × ¬ IsPastTheEnd f × IsFirstFault f fault)
+IsUtcFault f e = ((e ≡ faults.OutOfRange) × IsPastTheEnd f)
+    ⊎ ((fault : DateTimeError) × (e ≡ faults.DateTime fault) × ¬ IsPastTheEnd f
+    × IsFirstFault f fault)
 
 -- why there is no date time with a reading and this many nanoseconds
 abbrev pub IsShowFault : ℤ → ℕ → TzError → Type 0
@@ -70,15 +73,19 @@ total_of d = total_nanoseconds_of d.unix_time d.fields.nanoseconds
 
 -- the seconds of the total, rounded down, are a reading
 abbrev pub IsUtcTotal : ℤ → Type 0
-IsUtcTotal total = ((pos 1000000000 *ℤ negsuc 67768100567971199) ≤ℤ total) × (total <ℤ (pos 1000000000 *ℤ pos 67767976233532800))
+IsUtcTotal total = ((pos 1000000000 *ℤ negsuc 67768100567971199) ≤ℤ total)
+    × (total <ℤ (pos 1000000000 *ℤ pos 67767976233532800))
 
 -- the seconds of the total, rounded down, fit 64 bits
 abbrev pub IsNearTotal : ℤ → Type 0
-IsNearTotal total = ((pos 1000000000 *ℤ negsuc 9223372036854775807) ≤ℤ total) × (total <ℤ (pos 1000000000 *ℤ pos 9223372036854775808))
+IsNearTotal total = ((pos 1000000000 *ℤ negsuc 9223372036854775807) ≤ℤ total)
+    × (total <ℤ (pos 1000000000 *ℤ pos 9223372036854775808))
 
--- the UTC date time of a total: its seconds, rounded down, are shown, and the nanoseconds are what is over
+-- the UTC date time of a total: its seconds, rounded down, are shown, and the nanoseconds are what
+-- is over
 abbrev pub IsUtcAt : ℤ → Fields → Type 0
-IsUtcAt total f = (seconds : ℤ) × IsTimespec total seconds f.nanoseconds × IsCivil seconds f.nanoseconds f
+IsUtcAt total f = (seconds : ℤ) × IsTimespec total seconds f.nanoseconds
+    × IsCivil seconds f.nanoseconds f
 
 -- the difference of two totals, forwards, or backwards if the first is the greater one
 abbrev pub IsForwards : ℤ → ℤ → Duration → Type 0
@@ -95,31 +102,41 @@ IsLocalFault f offset e =
 
 -- the date time that a zone's clock shows at an instant, with these nanoseconds
 abbrev pub ShowsByClock : Zone → ℤ → ℕ → DateTime → Type 0
-ShowsByClock z u nanoseconds d = (t : LocalTimeType) × IsClock z u t × ShowsInstant u nanoseconds t d
+ShowsByClock z u nanoseconds d = (t : LocalTimeType) × IsClock z u t
+    × ShowsInstant u nanoseconds t d
 
--- why a zone's clock shows no date time: the nanoseconds' fault, or the lookup's, or what it shows is no reading
+-- why a zone's clock shows no date time: the nanoseconds' fault, or the lookup's, or what it shows
+-- is no reading
 abbrev pub IsClockFault : Zone → ℤ → ℕ → TzError → Type 0
 IsClockFault z u nanoseconds e =
     ((e ≡ faults.DateTime field_faults.InvalidNanoseconds) × (1000000000 ≤ nanoseconds))
     ⊎ ((nanoseconds < 1000000000) × IsLookupFault z u e)
-    ⊎ ((e ≡ faults.OutOfRange) × (nanoseconds < 1000000000) × ((t : LocalTimeType) × IsClock z u t × ¬ IsReading (u +ℤ t.ut_offset)))
+    ⊎ ((e ≡ faults.OutOfRange) × (nanoseconds < 1000000000)
+    × ((t : LocalTimeType) × IsClock z u t × ¬ IsReading (u +ℤ t.ut_offset)))
 
 -- the seconds of the total, rounded down, do not fit 64 bits
 abbrev pub IsFarTotal : ℤ → Type 0
-IsFarTotal total = (seconds : ℤ) (nanoseconds : ℕ) → IsTimespec total seconds nanoseconds → ¬ FitsSigned w64 seconds
+IsFarTotal total = (seconds : ℤ) (nanoseconds : ℕ) → IsTimespec total seconds nanoseconds
+    → ¬ FitsSigned w64 seconds
 
 -- the date time that a type shows at a total, and that a zone's clock does
 abbrev pub ShowsTotal : ℤ → LocalTimeType → DateTime → Type 0
-ShowsTotal total t d = (u : ℤ) × (nanoseconds : ℕ) × IsTimespec total u nanoseconds × ShowsInstant u nanoseconds t d
+ShowsTotal total t d = (u : ℤ) × (nanoseconds : ℕ) × IsTimespec total u nanoseconds
+    × ShowsInstant u nanoseconds t d
 
 abbrev pub ShowsTotalByClock : Zone → ℤ → DateTime → Type 0
-ShowsTotalByClock z total d = (u : ℤ) × (nanoseconds : ℕ) × IsTimespec total u nanoseconds × ShowsByClock z u nanoseconds d
+ShowsTotalByClock z total d = (u : ℤ) × (nanoseconds : ℕ) × IsTimespec total u nanoseconds
+    × ShowsByClock z u nanoseconds d
 
 -- why there is none: the total is far, or else as for its seconds and nanoseconds
 abbrev pub IsTotalFault : ℤ → ℤ → TzError → Type 0
 IsTotalFault total offset e =
-    (e ≡ faults.OutOfRange) × (IsFarTotal total ⊎ ((u : ℤ) × (nanoseconds : ℕ) × IsTimespec total u nanoseconds × ¬ IsReading (u +ℤ offset)))
+    (e ≡ faults.OutOfRange) × (IsFarTotal total
+    ⊎ ((u : ℤ) × (nanoseconds : ℕ) × IsTimespec total u nanoseconds
+    × ¬ IsReading (u +ℤ offset)))
 
 abbrev pub IsTotalClockFault : Zone → ℤ → TzError → Type 0
 IsTotalClockFault z total e =
-    ((e ≡ faults.OutOfRange) × IsFarTotal total) ⊎ ((u : ℤ) × (nanoseconds : ℕ) × IsTimespec total u nanoseconds × IsClockFault z u nanoseconds e)
+    ((e ≡ faults.OutOfRange) × IsFarTotal total)
+    ⊎ ((u : ℤ) × (nanoseconds : ℕ) × IsTimespec total u nanoseconds
+    × IsClockFault z u nanoseconds e)

@@ -1,5 +1,7 @@
--- The entries that a reading has in a clock: the instants at which the clock shows it, and the jumps of the clock over it.
-use Rattle.std.specs.Prelude.{◌≡◌, ◌⊎◌, ◌^◌, ◌≤◌, ℤ, ◌+ℤ◌, ◌-ℤ◌, ◌≤ℤ◌, ◌<ℤ◌, List, [], ◌∷◌, ◌++◌, length, Option, Some, option_map}
+-- The entries that a reading has in a clock: the instants at which the clock shows it, and the
+-- jumps of the clock over it.
+use Rattle.std.specs.Prelude.{◌≡◌, ◌⊎◌, ⊤, ◌^◌, ◌≤◌, ℤ, ◌+ℤ◌, ◌-ℤ◌, ◌≤ℤ◌, ◌<ℤ◌, List, [], ◌∷◌, ◌++◌}
+use Rattle.std.specs.Prelude.{length, Option, Some, option_map}
 use Rattle.std.specs.Borrow.{Bor}
 use Rattle.std.specs.List.{All, AllPairs, Contains}
 use Rattle.tz_base.specs.declared.error.tz_error.TzError.{TzError}
@@ -11,7 +13,8 @@ use Rattle.tz_zone.specs.ValidZone.{AreLeapSeconds}
 use Rattle.tz.specs.Found.{Clock, IsJumpOver, Shows, PassesOver}
 use Rattle.tz.specs.Reached.{AreOffsetsOf}
 
--- an instant with the type that shows the reading there, or the instant of a jump with the types before and after it
+-- an instant with the type that shows the reading there, or the instant of a jump with the types
+-- before and after it
 pub data Entry : Type 0 where
   Shown : ℤ → LocalTimeType → Entry
   Jump : ℤ → LocalTimeType → LocalTimeType → Entry
@@ -43,49 +46,65 @@ pub record AreEntriesBefore (clock : Clock) (r until : ℤ) (es : List Entry) : 
   pub complete : (e : Entry) → IsEntryIn clock r e → instant_of e <ℤ until → Contains es e
 
 -- how one who takes entries of a reading gains them: none if it stays, and one after the other
-pub record IsTaker {E : Type 0} (gains : E → E → List Entry → Type 0) (takes : E → ℤ → Type 0) : Type 0 where
+pub record IsTaker {E : Type 0} (gains : E → E → List Entry → Type 0) (takes : E → ℤ
+    → Type 0) : Type 0 where
   pub none : (taker : E) → gains taker taker []
-  pub more : (taker middle grown : E) (es fs : List Entry) → gains taker middle es → gains middle grown fs → gains taker grown (es ++ fs)
-  pub goes_on : (taker grown : E) (es : List Entry) (r : ℤ) → gains taker grown es → takes taker r → takes grown r
+  pub more : (taker middle grown : E) (es fs : List Entry) → gains taker middle es
+      → gains middle grown fs → gains taker grown (es ++ fs)
+  pub goes_on : (taker grown : E) (es : List Entry) (r : ℤ) → gains taker grown es → takes taker r
+      → takes grown r
 
 -- one who takes entries, and takes those of the reading
-pub record TakesFrom {E : Type 0} (gains : E → E → List Entry → Type 0) (takes : E → ℤ → Type 0) (taker : E) (r : ℤ) : Type 0 where
+pub record TakesFrom {E : Type 0} (gains : E → E → List Entry → Type 0) (takes : E → ℤ
+    → Type 0) (taker : E) (r : ℤ) : Type 0 where
   pub is_taker : IsTaker gains takes
   pub takes_reading : takes taker r
 
 -- whoever takes entries took all that the reading has, less than 2^33
 abbrev pub Finds : {E : Type 0} → (E → E → List Entry → Type 0) → Clock → ℤ → E → E → Type 0
-Finds gains clock r taker grown = (es : List Entry) × gains taker grown es × AreEntries clock r es × (length es ≤ 2 ^ 33)
+Finds gains clock r taker grown = (es : List Entry) × gains taker grown es × AreEntries clock r es
+    × (length es ≤ 2 ^ 33)
 
 -- one of those that the reading has was refused
 abbrev pub IsRefused : (TzError → Entry → Type 0) → Clock → ℤ → TzError → Type 0
 IsRefused refuses clock r fault = (e : Entry) × IsEntryIn clock r e × refuses fault e
 
--- a side of an entry is outside the years of 32 bits
+-- all sides of an entry are inside the years of 32 bits
+abbrev pub IsEntryInside : Entry → Type 0
+IsEntryInside (Shown u t) = ⊤
+IsEntryInside (Jump u a b) = IsReading (u +ℤ a.ut_offset) × IsReading (u +ℤ b.ut_offset)
+
+-- a side of an entry is outside them
 abbrev pub IsEntryOutside : Entry → Type 0
 IsEntryOutside (Shown u t) = ⊥
 IsEntryOutside (Jump u a b) = ¬ IsReading (u +ℤ a.ut_offset) ⊎ ¬ IsReading (u +ℤ b.ut_offset)
 
 -- at the instant the clock has this type, or none
 abbrev pub HoldsAt : Clock → ℤ → Option LocalTimeType → Type 0
-HoldsAt clock u type = (t : LocalTimeType) → (clock u t → type ≡ Some t) × (type ≡ Some t → clock u t)
+HoldsAt clock u type = (t : LocalTimeType) → (clock u t → type ≡ Some t)
+    × (type ≡ Some t → clock u t)
 
--- in the window of a reading the clock has the first type up to the jump, and the second from there on
+-- in the window of a reading the clock has the first type up to the jump, and the second from there
+-- on
 pub record HasTwoTypes (z : Zone) (r jump : ℤ) (before after : LocalTimeType) : Type 0 where
   pub leap_seconds_are : AreLeapSeconds z.leap_seconds
   pub low : ℤ
   pub high : ℤ
   pub offsets_are : AreOffsetsOf z (r -ℤ high) (r -ℤ low)
-  pub types_are : (low <ℤ jump) × (jump ≤ℤ high) × ((u : ℤ) → low ≤ℤ u → u <ℤ jump → IsClock z u before) × ((u : ℤ) → jump ≤ℤ u → u ≤ℤ high → IsClock z u after)
+  pub types_are : (low <ℤ jump) × (jump ≤ℤ high) × ((u : ℤ) → low ≤ℤ u → u <ℤ jump
+      → IsClock z u before) × ((u : ℤ) → jump ≤ℤ u → u ≤ℤ high → IsClock z u after)
 
 -- a type that is lent
 abbrev pub lent_type : Option (Bor LocalTimeType) → Option LocalTimeType
 lent_type type = option_map (λ t. t.now) type
 
--- what a reading has in a span of time throughout which a clock has one type, or none, by the type just before it
+-- what a reading has in a span of time throughout which a clock has one type, or none, by the type
+-- just before it
 abbrev pub IsEntryOf : ℤ → Option LocalTimeType → ℤ → Option LocalTimeType → ℤ → Entry → Type 0
-IsEntryOf r before since type last (Shown u t) = (type ≡ Some t) × ((since ≤ℤ u) × (u ≤ℤ last)) × ((u +ℤ t.ut_offset) ≡ r)
-IsEntryOf r before since type last (Jump u a b) = (u ≡ since) × (before ≡ Some a) × (type ≡ Some b) × IsJumpOver r u a b
+IsEntryOf r before since type last (Shown u t) = (type ≡ Some t) × ((since ≤ℤ u) × (u ≤ℤ last))
+    × ((u +ℤ t.ut_offset) ≡ r)
+IsEntryOf r before since type last (Jump u a b) = (u ≡ since) × (before ≡ Some a) × (type ≡ Some b)
+    × IsJumpOver r u a b
 
 -- its entry, or nothing
 abbrev pub IsGiven : ℤ → Option LocalTimeType → ℤ → Option LocalTimeType → ℤ → List Entry → Type 0
@@ -94,5 +113,7 @@ IsGiven r before since type last es =
     ⊎ ((e : Entry) × IsEntryOf r before since type last e × (es ≡ e ∷ []))
 
 -- its entry was refused
-abbrev pub IsGivenFault : (TzError → Entry → Type 0) → ℤ → Option LocalTimeType → ℤ → Option LocalTimeType → ℤ → TzError → Type 0
-IsGivenFault refuses r before since type last fault = (e : Entry) × IsEntryOf r before since type last e × refuses fault e
+abbrev pub IsGivenFault : (TzError → Entry → Type 0) → ℤ → Option LocalTimeType → ℤ
+    → Option LocalTimeType → ℤ → TzError → Type 0
+IsGivenFault refuses r before since type last fault =
+    (e : Entry) × IsEntryOf r before since type last e × refuses fault e

@@ -20,11 +20,13 @@ IsFieldFault f e = (fault : DateTimeError) × (e ≡ faults.DateTime fault) × I
 -- why a search for valid fields is refused: memory, if it takes any, or an entry cannot be made
 abbrev pub IsSearchFault : Type 0 → Clock → Fields → TzError → Type 0
 IsSearchFault takes_memory clock f e =
-    ((e ≡ faults.Memory alloc_error) × takes_memory) ⊎ ((e ≡ faults.OutOfRange) × OneCannotBeMade clock f)
+    ((e ≡ faults.Memory alloc_error) × takes_memory)
+    ⊎ ((e ≡ faults.OutOfRange) × OneCannotBeMade clock f)
 
 -- the fields have a fault, or they are valid and the search is refused
 abbrev pub IsFindFault : Type 0 → Clock → Fields → TzError → Type 0
-IsFindFault takes_memory clock f e = IsFieldFault f e ⊎ (IsValid f × IsSearchFault takes_memory clock f e)
+IsFindFault takes_memory clock f e = IsFieldFault f e
+    ⊎ (IsValid f × IsSearchFault takes_memory clock f e)
 
 -- a year that is 200 years or more from both ends of 32 bits
 abbrev pub IsFarFromEnds : ℤ → Type 0
@@ -42,8 +44,10 @@ HasRuleOffsets None = ⊤
 
 -- so are all offsets of the zone
 abbrev pub HasPlainOffsets : Zone → Type 0
-HasPlainOffsets z = ((i : ℕ) (t : LocalTimeType) → IsTypeAt z i t → IsRuleOffset t.ut_offset) × HasRuleOffsets z.extra_rule
+HasPlainOffsets z = ((i : ℕ) (t : LocalTimeType) → IsTypeAt z i t → IsRuleOffset t.ut_offset)
+    × HasRuleOffsets z.extra_rule
 
--- the list of all that is found is promised: in years far from the ends, and up to near the ends in a zone with such offsets
+-- the list of all that is found is promised: in years far from the ends, and up to near the ends in
+-- a zone with such offsets
 abbrev pub IsPromised : Zone → ℤ → Type 0
 IsPromised z year = IsFarFromEnds year ⊎ (IsInsideEnds year × HasPlainOffsets z)

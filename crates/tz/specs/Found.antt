@@ -1,4 +1,5 @@
--- What a search finds: instants at which a clock shows a reading, and forward jumps of a clock over it.
+-- What a search finds: instants at which a clock shows a reading, and forward jumps of a clock over
+-- it.
 use Rattle.std.specs.Prelude.{◌≡◌, ◌-◌, ℤ, pos, ◌+ℤ◌, ◌-ℤ◌, ◌≤ℤ◌, ◌<ℤ◌, List, [], ◌∷◌, Option, Some, None, length, slice_get, ⊤}
 use Rattle.std.specs.List.{All, AllPairs, Contains}
 use Rattle.tz_base.specs.declared.fields.Fields.{Fields}
@@ -35,11 +36,14 @@ IsJumpOver r u before after = ((u +ℤ before.ut_offset) ≤ℤ r) × (r <ℤ (u
 
 -- the clock passes over the reading at u: the types before u and at u make a forward jump over it
 abbrev pub PassesOver : Clock → ℤ → ℤ → LocalTimeType → LocalTimeType → Type 0
-PassesOver clock r u before after = clock (u -ℤ pos 1) before × clock u after × IsJumpOver r u before after
+PassesOver clock r u before after = clock (u -ℤ pos 1) before × clock u after
+    × IsJumpOver r u before after
 
--- the clock shows the fields, or it passes over them and the sides of the jump are its instant in both types
+-- the clock shows the fields, or it passes over them and the sides of the jump are its instant in
+-- both types
 abbrev pub IsFoundBy : Clock → Fields → FoundDateTimeKind → Type 0
-IsFoundBy clock f (Normal d) = (d.fields ≡ f) × Shows clock (reading f) d.unix_time d.local_time_type
+IsFoundBy clock f (Normal d) = (d.fields ≡ f)
+    × Shows clock (reading f) d.unix_time d.local_time_type
 IsFoundBy clock f (Skipped before after) =
     (u : ℤ) × (a : LocalTimeType) × (b : LocalTimeType) × PassesOver clock (reading f) u a b
     × ShowsInstant u f.nanoseconds a before × ShowsInstant u f.nanoseconds b after
@@ -54,10 +58,12 @@ pub record IsFound (clock : Clock) (f : Fields) (found : List FoundDateTimeKind)
   pub in_order : AllPairs IsEarlier found
   pub complete : (e : FoundDateTimeKind) → IsFoundBy clock f e → Contains found e
 
--- an entry can be made: what is shown has the fields that were searched for, and both sides of a jump need years of 32 bits
+-- an entry can be made: what is shown has the fields that were searched for, and both sides of a
+-- jump need years of 32 bits
 abbrev pub CanBeMade : FoundDateTimeKind → Type 0
 CanBeMade (Normal d) = ⊤
-CanBeMade (Skipped before after) = IsReading (reading before.fields) × IsReading (reading after.fields)
+CanBeMade (Skipped before after) = IsReading (reading before.fields)
+    × IsReading (reading after.fields)
 
 -- each entry that the fields have can be made, or one of them cannot
 abbrev pub EachCanBeMade : Clock → Fields → Type 0

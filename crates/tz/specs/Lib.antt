@@ -23,5 +23,5 @@ pub mod LentSlots
 pub mod SlotEquality
 pub mod Meanings
 pub mod LocalMeanings
-pub mod Summaries
+pub mod Ends
 pub mod Plain

@@ -17,6 +17,7 @@ slots_of list = list.buf.now
 abbrev pub count_of : FoundDateTimeListRefMut → ℕ
 count_of list = list.count
 
--- the reference by which the list writes to those slots: two lists with one reference have the same slots
+-- the reference by which the list writes to those slots: two lists with one reference have the same
+-- slots
 abbrev pub reference_of : FoundDateTimeListRefMut → GName
 reference_of list = list.buf.ghost_name

@@ -1,12 +1,12 @@
--- What a local time means in a zone: how often clocks show it, and whether they are set forward over it.
-use Rattle.std.specs.Prelude.{◌≡◌, ◌≢◌, List, [], ◌∷◌, ◌++◌, length, Some, None}
+-- What a local time means in a zone: how often clocks show it, and whether they are set forward
+-- over it.
+use Rattle.std.specs.Prelude.{◌≡◌, ◌≢◌, List, [], ◌∷◌, length, Some, None}
 use Rattle.tz_base.specs.declared.fields.Fields.{Fields}
 use Rattle.tz_base.specs.Fields.{reading}
 use Rattle.tz_zone.specs.Clock.{IsClock}
 use Rattle.tz_zone.specs.Table.{Zone}
 use Rattle.tz.specs.DateTimes.{DateTime, ShowsByClock}
 use Rattle.tz.specs.Found.{IsFound}
-use Rattle.tz.specs.Growth.{HoldsMore, holds_more, holds_none}
 use Rattle.tz.specs.Meanings.{instant_meant, IsMeaning}
 use Rattle.tz.specs.declared.datetime.disambiguation.Disambiguation.{Disambiguation}
 use Rattle.tz.specs.declared.datetime.disambiguation.Disambiguation.TheVariants.{Compatible, Earlier, Later, Reject}
@@ -25,7 +25,8 @@ meaning_of found = More (length found)
 
 -- the meaning of fields is that of the list of all that is found
 abbrev pub HasMeaning : Zone → Fields → Meaning → Type 0
-HasMeaning z f meaning = (found : List FoundDateTimeKind) × IsFound (IsClock z) f found × (meaning ≡ meaning_of found)
+HasMeaning z f meaning = (found : List FoundDateTimeKind) × IsFound (IsClock z) f found
+    × (meaning ≡ meaning_of found)
 
 -- what each choice gives of fields with this meaning; in a gap, what clocks show at another instant
 abbrev pub ChoicesAgree : Zone → Fields → Meaning → Type 0
@@ -40,13 +41,3 @@ ChoicesAgree z f (Gap before after) =
     → ShowsByClock z (instant_meant choice (reading f) before after) f.nanoseconds d
     → IsMeaning z choice f (Some d))
 ChoicesAgree z f (More count) = IsMeaning z Reject f None
-
--- whatever list the first is the meaning of, the second is that of this list with these at its end
-abbrev pub MeansMore : Meaning → Meaning → List FoundDateTimeKind → Type 0
-MeansMore = HoldsMore (λ meaning found. meaning ≡ meaning_of found)
-
-pub means_none : (meaning : Meaning) → MeansMore meaning meaning []
-means_none = holds_none (λ meaning found. meaning ≡ meaning_of found)
-
-pub means_more : (meaning middle grown : Meaning) (es fs : List FoundDateTimeKind) → MeansMore meaning middle es → MeansMore middle grown fs → MeansMore meaning grown (es ++ fs)
-means_more = holds_more (λ meaning found. meaning ≡ meaning_of found)

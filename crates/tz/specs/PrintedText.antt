@@ -1,5 +1,6 @@
--- How a date time is printed: ISO 8601-1, sections 5.4.2 (extended format, nine decimal digits) and 5.3.4 (UTC and offsets from it), with the year
--- as long as it is, and the seconds of an offset if there are any.
+-- How a date time is printed: ISO 8601-1, sections 5.4.2 (extended format, nine decimal digits) and
+-- 5.3.4 (UTC and offsets from it), with the year as long as it is, and the seconds of an offset if
+-- there are any.
 use Rattle.std.specs.Prelude.{ℕ, zero, suc, ◌+◌, ◌/◌, ◌%◌, ◌==◌, nat_lt, if◌then◌else◌, ℤ, pos, negsuc, List, [], ◌∷◌, ◌++◌, unwrap_or}
 use Rattle.std.specs.Fmt.{decimal, signed_decimal}
 use Rattle.tz_base.specs.declared.fields.Fields.{Fields}
@@ -27,7 +28,8 @@ date_text f = signed_decimal f.year ++ (45 ∷ two_digits f.month ++ (45 ∷ two
 
 -- hh:mm:ss.nnnnnnnnn
 unfoldable pub time_text : Fields → List ℕ
-time_text f = two_digits f.hour ++ (58 ∷ two_digits f.minute ++ (58 ∷ two_digits f.second ++ (46 ∷ nine_digits f.nanoseconds)))
+time_text f = two_digits f.hour ++ (58 ∷ two_digits f.minute
+    ++ (58 ∷ two_digits f.second ++ (46 ∷ nine_digits f.nanoseconds)))
 
 -- `:ss`, unless the seconds are zero
 abbrev pub seconds_text : ℕ → List ℕ
@@ -35,7 +37,8 @@ seconds_text seconds = if seconds == 0 then [] else 58 ∷ two_digits seconds
 
 -- hh:mm or hh:mm:ss of this many seconds
 unfoldable pub duration_text : ℕ → List ℕ
-duration_text seconds = two_digits_or_more (seconds / 3600) ++ (58 ∷ two_digits ((seconds / 60) % 60) ++ seconds_text (seconds % 60))
+duration_text seconds = two_digits_or_more (seconds / 3600)
+    ++ (58 ∷ two_digits ((seconds / 60) % 60) ++ seconds_text (seconds % 60))
 
 -- `Z`, or the sign and the size of the offset
 unfoldable pub offset_text : ℤ → List ℕ
@@ -45,7 +48,9 @@ offset_text (negsuc n) = 45 ∷ duration_text (suc n)
 
 -- what stands between the year and the nanoseconds
 unfoldable pub middle_text : Fields → List ℕ
-middle_text f = 45 ∷ two_digits f.month ++ (45 ∷ two_digits f.month_day ++ (84 ∷ two_digits f.hour ++ (58 ∷ two_digits f.minute ++ (58 ∷ two_digits f.second ++ 46 ∷ []))))
+middle_text f = 45 ∷ two_digits f.month
+    ++ (45 ∷ two_digits f.month_day ++ (84 ∷ two_digits f.hour
+    ++ (58 ∷ two_digits f.minute ++ (58 ∷ two_digits f.second ++ 46 ∷ []))))
 
 -- the date, `T`, the time, and the offset from UTC
 unfoldable pub printed_text : Fields → ℤ → List ℕ
@@ -57,7 +62,8 @@ type_name_text t = unwrap_or t.designation (45 ∷ [])
 
 -- a date time, a space and the name of its type
 unfoldable pub moment_text : DateTime → List ℕ
-moment_text d = printed_text d.fields d.local_time_type.ut_offset ++ 32 ∷ type_name_text d.local_time_type
+moment_text d = printed_text d.fields d.local_time_type.ut_offset ++ 32
+    ∷ type_name_text d.local_time_type
 
 -- what a line has after the nanoseconds: the offset, a space, the name of the type, and LF
 unfoldable pub suffix_text : LocalTimeType → List ℕ

@@ -11,7 +11,8 @@ module _ {K : Type 0} {E : K → K → Bool} (laws : IsPartialEquivalence E) whe
   flip (Some x) None = refl
   flip (Some x) (Some y) = laws.symm x y
 
-  chain : (x y z : Option K) → option_eq E x y ≡ true → option_eq E y z ≡ true → option_eq E x z ≡ true
+  chain : (x y z : Option K) → option_eq E x y ≡ true → option_eq E y z ≡ true
+      → option_eq E x z ≡ true
   chain None None z same next = next
   chain None (Some y) z same next = absurd cc
   chain (Some x) None z same next = absurd cc

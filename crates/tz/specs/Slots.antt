@@ -12,7 +12,8 @@ Slots = List (Option FoundDateTimeKind)
 abbrev pub written_of : Slots → ℕ → Slots
 written_of slots count = take (min count (length slots)) slots
 
--- the slots when these were found: the front of the list, as far as the slots go, and then the other slots as they were
+-- the slots when these were found: the front of the list, as far as the slots go, and then the
+-- other slots as they were
 abbrev pub filled : Slots → List FoundDateTimeKind → Slots
 filled [] found = []
 filled (slot ∷ slots) [] = slot ∷ slots

@@ -1,5 +1,6 @@
--- The TZ string of a rule, and the rules that have one. (POSIX.1-2017, Base Definitions, 8.3: the TZ variable. RFC 8536, section 3.3.1: extended times.)
--- What a reader supplies by itself is left out: minutes and seconds that are zero, two o'clock, and a daylight offset of an hour more.
+-- The TZ string of a rule, and the rules that have one. (POSIX.1-2017, Base Definitions, 8.3: the
+-- TZ variable. RFC 8536, section 3.3.1: extended times.) What a reader supplies by itself is left
+-- out: minutes and seconds that are zero, two o'clock, and a daylight offset of an hour more.
 use Rattle.std.specs.Prelude.{◌≡◌, ◌≢◌, ℕ, suc, ◌/◌, ◌%◌, ◌==◌, nat_lt, ◌⊎◌, ℤ, pos, negsuc, neg_ℤ, ◌+ℤ◌, ◌<ℤ◌, Bool, true, false, ◌&&◌, ◌||◌, List, [], ◌∷◌, ◌++◌, length, IfSome, None, if◌then◌else◌}
 use Rattle.std.specs.Char.{is_ascii_alphabetic}
 use Rattle.std.specs.Fmt.{decimal}
@@ -42,7 +43,8 @@ name_text name = if is_bare name then name else opening_bracket ∷ name ++ (clo
 unfoldable pub day_text : RuleDay → List ℕ
 day_text (Julian1WithoutLeap n) = capital_j ∷ decimal n
 day_text (Julian0WithLeap n) = decimal n
-day_text (MonthWeekDay d) = capital_m ∷ decimal d.month ++ (dot ∷ decimal d.week ++ (dot ∷ decimal d.week_day))
+day_text (MonthWeekDay d) = capital_m ∷ decimal d.month
+    ++ (dot ∷ decimal d.week ++ (dot ∷ decimal d.week_day))
 
 -- a slash and the time, unless it is two o'clock
 unfoldable pub time_of_day_text : ℤ → List ℕ
@@ -64,7 +66,8 @@ abbrev pub daylight_text : AlternateTime → List ℕ
 daylight_text r =
     name_text (designation_text r.dst)
     ++ (daylight_offset_text r.std.ut_offset r.dst.ut_offset
-    ++ (comma ∷ turn_text r.dst_start r.dst_start_time ++ (comma ∷ turn_text r.dst_end r.dst_end_time)))
+    ++ (comma ∷ turn_text r.dst_start r.dst_start_time
+    ++ (comma ∷ turn_text r.dst_end r.dst_end_time)))
 
 -- the TZ string of a rule
 abbrev pub tz_text : TransitionRule → List ℕ
@@ -81,7 +84,8 @@ IsStandardText t = (t.is_dst ≡ false) × (t.designation ≢ None) × IsShortOf
 
 -- a type that stands second, whose offset may also be an hour more than the first one's
 abbrev pub IsDaylightText : ℤ → LocalTimeType → Type 0
-IsDaylightText std t = (t.is_dst ≡ true) × (t.designation ≢ None) × (IsShortOffset t.ut_offset ⊎ (t.ut_offset ≡ std +ℤ pos 3600))
+IsDaylightText std t = (t.is_dst ≡ true) × (t.designation ≢ None)
+    × (IsShortOffset t.ut_offset ⊎ (t.ut_offset ≡ std +ℤ pos 3600))
 
 -- a rule that has a TZ string: all days and times of rules have a text
 abbrev pub IsWritable : TransitionRule → Type 0
@@ -91,7 +95,8 @@ IsWritable (Alternating r) = IsStandardText r.std × IsDaylightText r.std.ut_off
 -- the names of its types are such as those have
 abbrev pub AreNamed : TransitionRule → Type 0
 AreNamed (Fixed t) = IfSome t.designation IsDesignation
-AreNamed (Alternating r) = IfSome r.std.designation IsDesignation × IfSome r.dst.designation IsDesignation
+AreNamed (Alternating r) = IfSome r.std.designation IsDesignation
+    × IfSome r.dst.designation IsDesignation
 
 -- a time of day that extended TZ strings alone have
 unfoldable pub is_extended_time : ℤ → Bool

@@ -1,15 +1,14 @@
-//! For the crates above and their tests, and no part of the public surface: fields, text, the search for them, date times as plain data, and how
-//! bytes are read.
+//! For the crates above and their tests, and no part of the public surface: fields, text, the
+//! search for them, date times as plain data, and how bytes are read.
 
-pub use crate::datetime::date_time::fields_of;
-pub use crate::datetime::date_time_data::{DateTimeData, FoundData, UtcData};
+pub use crate::datetime::date_time::{DateTimeData, FoundData, UtcData, fields_of};
 pub use crate::datetime::disambiguation::find_one;
-pub use crate::datetime::entry_takers::EntryTaker;
+pub use crate::datetime::ends::{Ends, FewEntries, ends_by_types};
 pub use crate::datetime::find::find_fields;
-pub use crate::datetime::search::{search_zone, window_of};
+pub use crate::datetime::search::{types_of_window, window_of};
 pub use crate::datetime::zone_data_searches::{find_into, from_timespec};
-pub use crate::parse::number::{read_digits, value_of};
+pub use crate::parse::date_and_time::{read_digits, value_of};
 pub use crate::print::middle_of;
 pub use crate::text_buffer::{TextBuffer, two_pairs};
 pub use tz_base::fields::{Fields, is_reading, local_reading};
-pub use tz_zone::inner::{after_byte, read_to_end};
+pub use tz_zone::inner::{WindowTypes, after_byte, plain, read_to_end};

@@ -1,7 +1,9 @@
-//! Laws of date times, for proofs of programs that use them: a call of a law makes its contract known.
+//! Laws of date times, for proofs of programs that use them: a call of a law makes its contract
+//! known.
 //!
-//! A function here does nothing, or calls the laws on which it rests, or makes one call that the law is about. Its contract is the law, stated like
-//! the contracts of [`crate::UtcDateTime`] and [`crate::DateTime`].
+//! A function here does nothing, or calls the laws on which it rests, or makes one call that the
+//! law is about. Its contract is the law, stated like the contracts of [`crate::UtcDateTime`] and
+//! [`crate::DateTime`].
 
 ghost use Rattle.std.specs.Prelude.{◌≡◌, ◌≢◌, ℕ, ◌<◌, true, pos, ℤ, Some, None, ◌+ℤ◌, ◌↔◌, ◌≤◌, ◌≤ℤ◌, length, List, [], ◌∷◌, Option, IfSome, ⊤, alloc_error, FitsSigned};
 ghost use Rattle.std.specs.List.{Contains};
@@ -40,24 +42,31 @@ ghost use Rattle.tz.specs.DateTimes.{DateTime, IsDateTime, IsUtc, IsUtcAt, IsPas
 use crate::{DateTime, TimeZoneRef};
 use tz_zone::laws::{shown_types_are_sound, type_parts_are_sound};
 
-/// [`UtcDateTime::from_timespec`] of a date time's Unix time and nanoseconds is that date time again, unless its second is 60.
+/// [`UtcDateTime::from_timespec`] of a date time's Unix time and nanoseconds is that date time
+/// again, unless its second is 60.
 pub fn utc_date_times_come_back()
-    ensures ok { (f g : Fields) → IsUtc f → f.second < 60 → IsCivil (reading f) f.nanoseconds g → g ≡ f }
+    ensures ok { (f g : Fields) → IsUtc f → f.second < 60 → IsCivil (reading f) f.nanoseconds g
+        → g ≡ f }
     ensures err { (f : Fields) (e : TzError) → IsUtc f → ¬ IsShowFault (reading f) f.nanoseconds e }
 {}
 
-/// If [`UtcDateTime::checked_add`] returns a date time, [`UtcDateTime::duration_since`] returns the duration.
+/// If [`UtcDateTime::checked_add`] returns a date time, [`UtcDateTime::duration_since`] returns the
+/// duration.
 pub fn added_durations_come_back()
-    ensures ok { (f g : Fields) (d e : Duration) → IsUtcAt (utc_total f +ℤ pos (as_nanos d)) g → IsForwards (utc_total f) (utc_total g) e
+    ensures ok { (f g : Fields) (d e : Duration) → IsUtcAt (utc_total f +ℤ pos (as_nanos d)) g
+        → IsForwards (utc_total f) (utc_total g) e
         → as_nanos e ≡ as_nanos d }
-    ensures err { (f g : Fields) (d e : Duration) → IsUtcAt (utc_total f +ℤ pos (as_nanos d)) g → ¬ IsBackwards (utc_total f) (utc_total g) e }
+    ensures err { (f g : Fields) (d e : Duration) → IsUtcAt (utc_total f +ℤ pos (as_nanos d)) g
+        → ¬ IsBackwards (utc_total f) (utc_total g) e }
 {}
 
-/// Date times of local time types are equal if they have one Unix time and the same nanoseconds, and are in the order of their total nanoseconds;
-/// nothing else of them counts.
+/// Date times of local time types are equal if they have one Unix time and the same nanoseconds,
+/// and are in the order of their total nanoseconds; nothing else of them counts.
 pub fn date_times_compare_by_instant()
-    ensures equal { (a b : DateTime) → (moment_eq a b ≡ true) ↔ ((a.unix_time ≡ b.unix_time) × (a.fields.nanoseconds ≡ b.fields.nanoseconds)) }
-    ensures order { (a b : DateTime) → IsDateTime a → IsDateTime b → moment_cmp a b ≡ int_cmp (total_of a) (total_of b) }
+    ensures equal { (a b : DateTime) → (moment_eq a b ≡ true)
+        ↔ ((a.unix_time ≡ b.unix_time) × (a.fields.nanoseconds ≡ b.fields.nanoseconds)) }
+    ensures order { (a b : DateTime) → IsDateTime a → IsDateTime b
+        → moment_cmp a b ≡ int_cmp (total_of a) (total_of b) }
     ensures agree { (a b : DateTime) → (moment_eq a b ≡ true) ↔ (moment_cmp a b ≡ Equal) }
 {}
 
@@ -68,40 +77,56 @@ pub fn date_time_parts_are_sound(date_time: &DateTime)
     let _ = date_time.fields();
 }
 
-/// The order of UTC date times is that of their total nanoseconds, among those with a second below 60.
+/// The order of UTC date times is that of their total nanoseconds, among those with a second below
+/// 60.
 pub fn order_of_utc_date_times()
-    ensures { (a b : Fields) → IsUtc a → IsUtc b → a.second < 60 → b.second < 60 → (utc_order.ghosts).cmp a b ≡ int_cmp (utc_total a) (utc_total b) }
+    ensures { (a b : Fields) → IsUtc a → IsUtc b → a.second < 60 → b.second < 60
+        → (utc_order.ghosts).cmp a b ≡ int_cmp (utc_total a) (utc_total b) }
 {}
 
-/// [`crate::DateTime::from_timespec`] has one result for a zone and an instant: one date time, or one error if there is none.
+/// [`crate::DateTime::from_timespec`] has one result for a zone and an instant: one date time, or
+/// one error if there is none.
 pub fn lookups_have_one_result()
-    ensures shown { (z : Zone) (u : ℤ) (nanoseconds : ℕ) (d e : DateTime) → ShowsByClock z u nanoseconds d → ShowsByClock z u nanoseconds e → d ≡ e }
-    ensures refused { (z : Zone) (u : ℤ) (nanoseconds : ℕ) (e e' : TzError) → IsClockFault z u nanoseconds e → IsClockFault z u nanoseconds e' → e ≡ e' }
-    ensures either { (z : Zone) (u : ℤ) (nanoseconds : ℕ) (d : DateTime) (e : TzError) → ShowsByClock z u nanoseconds d → IsReading (reading d.fields)
+    ensures shown { (z : Zone) (u : ℤ) (nanoseconds : ℕ) (d e : DateTime)
+        → ShowsByClock z u nanoseconds d
+        → ShowsByClock z u nanoseconds e → d ≡ e }
+    ensures refused { (z : Zone) (u : ℤ) (nanoseconds : ℕ) (e e' : TzError)
+        → IsClockFault z u nanoseconds e
+        → IsClockFault z u nanoseconds e' → e ≡ e' }
+    ensures either { (z : Zone) (u : ℤ) (nanoseconds : ℕ) (d : DateTime) (e : TzError)
+        → ShowsByClock z u nanoseconds d → IsReading (reading d.fields)
         → ¬ IsClockFault z u nanoseconds e }
 {}
 
 /// Fields have one first error, and none if they are valid.
 pub fn field_errors_are_unique()
-    ensures first { (f : Fields) (a b : DateTimeError) → IsFirstFault f a → IsFirstFault f b → a ≡ b }
+    ensures first { (f : Fields) (a b : DateTimeError) → IsFirstFault f a → IsFirstFault f b
+        → a ≡ b }
     ensures either { (f : Fields) (a : DateTimeError) → IsValid f → ¬ IsFirstFault f a }
 {}
 
 /// What [`crate::DateTime::find`] finds of fields is one list, whatever the search.
 pub fn found_lists_are_unique()
-    ensures { (z : Zone) (f : Fields) (found others : List FoundDateTimeKind) → IsFound (IsClock z) f found → IsFound (IsClock z) f others → found ≡ others }
+    ensures { (z : Zone) (f : Fields) (found others : List FoundDateTimeKind)
+        → IsFound (IsClock z) f found → IsFound (IsClock z) f others → found ≡ others }
 {}
 
-/// [`crate::DateTime::find`] has one error if it fails for fields and a zone, and none if each entry of its list can be made, apart from `Memory`.
+/// [`crate::DateTime::find`] has one error if it fails for fields and a zone, and none if each
+/// entry of its list can be made, apart from `Memory`.
 pub fn search_errors_are_unique()
-    ensures refused { (z : Zone) (f : Fields) (e e' : TzError) → IsFindFault ⊥ (IsClock z) f e → IsFindFault ⊥ (IsClock z) f e' → e ≡ e' }
-    ensures either { (z : Zone) (f : Fields) (e : TzError) → IsValid f → EachCanBeMade (IsClock z) f → ¬ IsFindFault ⊥ (IsClock z) f e }
+    ensures refused { (z : Zone) (f : Fields) (e e' : TzError) → IsFindFault ⊥ (IsClock z) f e
+        → IsFindFault ⊥ (IsClock z) f e' → e ≡ e' }
+    ensures either { (z : Zone) (f : Fields) (e : TzError) → IsValid f → EachCanBeMade (IsClock z) f
+        → ¬ IsFindFault ⊥ (IsClock z) f e }
 {}
 
-/// [`crate::DateTime::find_one`] has one result for a zone, a choice and fields: one date time, none, or one error.
+/// [`crate::DateTime::find_one`] has one result for a zone, a choice and fields: one date time,
+/// none, or one error.
 pub fn meanings_are_unique()
-    ensures meant { (z : Zone) (choice : Disambiguation) (f : Fields) (d e : Option DateTime) → IsMeaning z choice f d → IsMeaning z choice f e → d ≡ e }
-    ensures refused { (z : Zone) (choice : Disambiguation) (f : Fields) (e e' : TzError) → IsMeaningFault z choice f e → IsMeaningFault z choice f e' → e ≡ e' }
+    ensures meant { (z : Zone) (choice : Disambiguation) (f : Fields) (d e : Option DateTime)
+        → IsMeaning z choice f d → IsMeaning z choice f e → d ≡ e }
+    ensures refused { (z : Zone) (choice : Disambiguation) (f : Fields) (e e' : TzError)
+        → IsMeaningFault z choice f e → IsMeaningFault z choice f e' → e ≡ e' }
     ensures either { (z : Zone) (choice : Disambiguation) (f : Fields) (d : Option DateTime)
         (e : TzError) → IsMeaning z choice f d → IsValid f → EachCanBeMade (IsClock z) f
         → IfSome d (λ shown. FitsSigned w32 shown.fields.year) → ¬ IsMeaningFault z choice f e }
@@ -138,25 +163,34 @@ pub fn choices_agree_with_meanings()
         → HasMeaning z f m → IsMeaning z reject f None ↔ ((d : DateTime) → m ≢ once d) }
 {}
 
-/// No local time is lost: if the clock has a type at each instant of a reading's window, it shows the reading there or is set forward over it.
+/// No local time is lost: if the clock has a type at each instant of a reading's window, it shows
+/// the reading there or is set forward over it.
 pub fn no_local_time_is_lost()
-    ensures { (z : Zone) (f : Fields) (low high : ℤ) (found : List FoundDateTimeKind) → IsValid f → IsWindow z.types z.extra_rule (reading f) low high
-        → ((u : ℤ) → low ≤ℤ u → u ≤ℤ high → (t : LocalTimeType) × IsClock z u t) → IsFound (IsClock z) f found → found ≢ [] }
+    ensures { (z : Zone) (f : Fields) (low high : ℤ) (found : List FoundDateTimeKind) → IsValid f
+        → IsWindow z.types z.extra_rule (reading f) low high
+        → ((u : ℤ) → low ≤ℤ u → u ≤ℤ high → (t : LocalTimeType) × IsClock z u t)
+        → IsFound (IsClock z) f found → found ≢ [] }
 {}
 
 /// A projection keeps the Unix time and the nanoseconds.
 pub fn projections_keep_the_instant()
-    ensures { (z : Zone) (u : ℤ) (nanoseconds : ℕ) (d : DateTime) → ShowsByClock z u nanoseconds d → (d.unix_time ≡ u) × (d.fields.nanoseconds ≡ nanoseconds) }
+    ensures { (z : Zone) (u : ℤ) (nanoseconds : ℕ) (d : DateTime) → ShowsByClock z u nanoseconds d
+        → (d.unix_time ≡ u) × (d.fields.nanoseconds ≡ nanoseconds) }
 {}
 
-/// What [`crate::DateTime::from_timespec`] shows, [`crate::DateTime::find`] of its fields lists, in every year: wherever each entry of
-/// the list can be made and no allocation fails. Where the list is promised each entry can be made, for offsets of 32 bits.
+/// What [`crate::DateTime::from_timespec`] shows, [`crate::DateTime::find`] of its fields lists, in
+/// every year: wherever each entry of the list can be made and no allocation fails. Where the list
+/// is promised each entry can be made, for offsets of 32 bits.
 pub fn shown_date_times_are_found()
-    ensures found { (z : Zone) (u : ℤ) (n : ℕ) (d : DateTime) (found : List FoundDateTimeKind) → ShowsByClock z u n d → IsFound (IsClock z) d.fields found
+    ensures found { (z : Zone) (u : ℤ) (n : ℕ) (d : DateTime) (found : List FoundDateTimeKind)
+        → ShowsByClock z u n d → IsFound (IsClock z) d.fields found
         → Contains found (normal d) }
-    ensures refused { (z : Zone) (u : ℤ) (n : ℕ) (d : DateTime) (e : TzError) → ShowsByClock z u n d → EachCanBeMade (IsClock z) d.fields
+    ensures refused { (z : Zone) (u : ℤ) (n : ℕ) (d : DateTime) (e : TzError) → ShowsByClock z u n d
+        → EachCanBeMade (IsClock z) d.fields
         → IsFindFault ⊤ (IsClock z) d.fields e → e ≡ Memory alloc_error }
-    ensures promised { (z : Zone) (f : Fields) → ((u : ℤ) (t : LocalTimeType) → IsClock z u t → FitsSigned w32 t.ut_offset) → IsValid f → IsPromised z f.year
+    ensures promised { (z : Zone) (f : Fields)
+        → ((u : ℤ) (t : LocalTimeType) → IsClock z u t → FitsSigned w32 t.ut_offset) → IsValid f
+        → IsPromised z f.year
         → EachCanBeMade (IsClock z) f }
 {}
 
@@ -170,30 +204,40 @@ pub fn found_date_times_are_shown()
 
 /// If the list of a search in a zone is promised, each of its entries can be made.
 pub fn promised_entries_can_be_made(zone: &TimeZoneRef<'_>)
-    ensures { (f : Fields) → IsValid f → IsPromised (zone_of zone.now) f.year → EachCanBeMade (IsClock (zone_of zone.now)) f }
+    ensures { (f : Fields) → IsValid f → IsPromised (zone_of zone.now) f.year
+        → EachCanBeMade (IsClock (zone_of zone.now)) f }
 {
     shown_types_are_sound(zone);
     shown_date_times_are_found();
 }
 
-/// The number of transitions that take effect in a window is the length of a rising list that holds just these: at most w take effect
-/// there exactly if that length is at most w.
+/// The number of transitions that take effect in a window is the length of a rising list that holds
+/// just these: at most w take effect there exactly if that length is at most w.
 pub fn transitions_in_a_window_are_counted()
-    ensures { (z : Zone) (low high : ℤ) (places : List ℕ) → AreRising places → ((i : ℕ) → TakesEffectIn z low high i ↔ Contains places i)
-        → (w : ℕ) → AtMostTakeEffectIn z low high w ↔ (length places ≤ w) }
+    ensures { (z : Zone) (low high : ℤ) (positions : List ℕ) → AreRising positions
+        → ((i : ℕ) → TakesEffectIn z low high i ↔ Contains positions i)
+        → (w : ℕ) → AtMostTakeEffectIn z low high w ↔ (length positions ≤ w) }
 {}
 
-/// [`crate::ParsedDateTime::parse`] has one result for a text: one local time and offset, or one error.
+/// [`crate::ParsedDateTime::parse`] has one result for a text: one local time and offset, or one
+/// error.
 pub fn parsed_texts_have_one_result()
-    ensures read { (text : List ℕ) (p q : ParsedDateTime) → IsDateTimeText text p → IsDateTimeText text q → p ≡ q }
-    ensures refused { (text : List ℕ) (e e' : ParseDateTimeError) → IsDateTimeTextFault text e → IsDateTimeTextFault text e' → e ≡ e' }
-    ensures either { (text : List ℕ) (p : ParsedDateTime) (e : ParseDateTimeError) → IsDateTimeText text p → ¬ IsDateTimeTextFault text e }
+    ensures read { (text : List ℕ) (p q : ParsedDateTime) → IsDateTimeText text p
+        → IsDateTimeText text q
+        → p ≡ q }
+    ensures refused { (text : List ℕ) (e e' : ParseDateTimeError) → IsDateTimeTextFault text e
+        → IsDateTimeTextFault text e' → e ≡ e' }
+    ensures either { (text : List ℕ) (p : ParsedDateTime) (e : ParseDateTimeError)
+        → IsDateTimeText text p
+        → ¬ IsDateTimeTextFault text e }
 {}
 
-/// What [`DateTime`] and [`crate::UtcDateTime`] print, [`crate::ParsedDateTime::parse`] reads as its fields and its offset: for all fields of a date
-/// time but second 60 of the last minute of all, which no UTC date time has, and for the offset of every local time type.
+/// What [`DateTime`] and [`crate::UtcDateTime`] print, [`crate::ParsedDateTime::parse`] reads as
+/// its fields and its offset: for all fields of a date time but second 60 of the last minute of
+/// all, which no UTC date time has, and for the offset of every local time type.
 pub fn printed_texts_are_read()
-    ensures read { (f : Fields) (offset : ℤ) → IsValid f → ¬ IsPastTheEnd f → FitsSigned w32 f.year → FitsSigned w32 offset → IsOffset offset
+    ensures read { (f : Fields) (offset : ℤ) → IsValid f → ¬ IsPastTheEnd f → FitsSigned w32 f.year
+        → FitsSigned w32 offset → IsOffset offset
         → IsDateTimeText (printed_text f offset) (record { local = f; ut_offset = Some offset }) }
     ensures utc { (f : Fields) → IsUtc f → ¬ IsPastTheEnd f }
 {}

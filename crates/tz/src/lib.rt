@@ -1,8 +1,10 @@
-//! Unix time to the local date and time of a time zone, and back. This is a port of the Rust crate tz-rs 0.7.3 in which every answer is proved.
+//! Unix time to the local date and time of a time zone, and back. This is a port of the Rust crate
+//! tz-rs 0.7.3 in which every answer is proved.
 //!
 //! # Four tasks
 //!
-//! Make a zone, from the machine's files by a name, from a TZ string, or from the bytes of a TZif file:
+//! Make a zone, from the machine's files by a name, from a TZ string, or from the bytes of a TZif
+//! file:
 //!
 //! ```rust
 //! let zone = TimeZone::from_posix_tz(alloc, reader, "Europe/Paris")?;
@@ -16,8 +18,8 @@
 //! let date_time = DateTime::from_timespec(946_684_800, 0, zone.as_ref())?;
 //! ```
 //!
-//! Find the instant that a local time means, by a choice for gaps and folds ([`Disambiguation`](datetime::Disambiguation)), or everything that it can
-//! mean:
+//! Find the instant that a local time means, by a choice for gaps and folds
+//! ([`Disambiguation`](datetime::Disambiguation)), or everything that it can mean:
 //!
 //! ```rust
 //! let date_time = DateTime::from_local(local, Disambiguation::Compatible, zone.as_ref())?;
@@ -55,21 +57,24 @@
 //! | [`RuleDay`](timezone::RuleDay) | a day of each year | a variant, of the type with the same name: `MonthWeekDay::new` |
 //! | [`TzString`] | the text of a rule | [`TzString::from_rule`] |
 //!
-//! Errors are in [`error`]: a call returns [`TzError`], or [`Error`] if it reads files. Numbers of the calendar are in [`constants`], and laws for
-//! proofs in [`laws`].
+//! Errors are in [`error`]: a call returns [`TzError`], or [`Error`] if it reads files. Numbers of
+//! the calendar are in [`constants`], and laws for proofs in [`laws`].
 //!
 //! # Gaps and folds
 //!
-//! A zone's clock is ahead of UTC by the offset of its [`LocalTimeType`]. When the offset grows, clocks are set forward and skip the local times of
-//! a gap. When it shrinks, they are set back and show the local times of a fold twice. [`DateTime::find`] returns an entry for each instant at which
-//! clocks show a local time and for each jump over it. Lookup and search use the same clock: before the last transition it has the type of the last
-//! transition that has been reached, or the zone's first type if none has, and from there on that of the zone's rule. The times of transitions count
-//! the leap seconds of a zone that has them; Unix times and durations never do.
+//! A zone's clock is ahead of UTC by the offset of its [`LocalTimeType`]. When the offset grows,
+//! clocks are set forward and skip the local times of a gap. When it shrinks, they are set back and
+//! show the local times of a fold twice. [`DateTime::find`] returns an entry for each instant at
+//! which clocks show a local time and for each jump over it. Lookup and search use the same clock:
+//! before the last transition it has the type of the last transition that has been reached, or the
+//! zone's first type if none has, and from there on that of the zone's rule. The times of
+//! transitions count the leap seconds of a zone that has them; Unix times and durations never do.
 //!
 //! # What is proved
 //!
-//! Each function meets its contract for all arguments, terminates, and has no undefined behaviour. The contract is written at the function. It says
-//! which value is returned and when the call fails, by definitions in `specs/` that follow RFC 8536 and POSIX.
+//! Each function meets its contract for all arguments, terminates, and has no undefined behaviour.
+//! The contract is written at the function. It says which value is returned and when the call
+//! fails, by definitions in `specs/` that follow RFC 8536 and POSIX.
 //!
 //! A call that allocates has an allocator among its arguments, or uses that of its value, and
 //! returns [`TzError::Memory`], or an error that holds it, if it is out of memory. The other calls

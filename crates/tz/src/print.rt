@@ -8,7 +8,8 @@ ghost use Rattle.tz.specs.PrintedText.{two_digits_or_more, middle_text, seconds_
 use crate::text_buffer::{TextBuffer, pair_of};
 use tz_base::fields::Fields;
 
-/// What stands between the year and the nanoseconds: month and day, and the time of day up to the point.
+/// What stands between the year and the nanoseconds: month and day, and the time of day up to the
+/// point.
 #[inline(always)]
 pub fn middle_of(fields: &Fields) -> [u8; 16]
     requires { IsValid fields.now }

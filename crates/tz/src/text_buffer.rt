@@ -36,9 +36,9 @@ pub fn pair_of(number: u8) -> [u8; 2]
     requires { number < 100 }
     ensures { result ≡ two_digits number }
 {
-    let place = usize::from(number) * 2;
+    let position = usize::from(number) * 2;
     let mut pair = [0; 2];
-    pair.copy_from_slice(&PAIRS[place..place + 2]);
+    pair.copy_from_slice(&PAIRS[position..position + 2]);
     pair
 }
 

@@ -15,7 +15,8 @@ use std::marker::Model;
 use tz_rule::laws::rule_parts_are_sound;
 use tz_zone::timezone::{AlternateTime, LocalTimeType, RuleDay, TransitionRule};
 
-/// The TZ string of a rule, which is made without an allocation. (POSIX.1-2017, Base Definitions, 8.3)
+/// The TZ string of a rule, which is made without an allocation. (POSIX.1-2017, Base Definitions,
+/// 8.3)
 #[derive(Drop)]
 pub struct TzString {
     text: TextBuffer,
@@ -163,7 +164,8 @@ fn push_day(buffer: &mut TextBuffer, day: &RuleDay)
     }
 }
 
-/// Appends when one of the two times begins: a comma, the day, and after a slash the time of day, unless it is two o'clock.
+/// Appends when one of the two times begins: a comma, the day, and after a slash the time of day,
+/// unless it is two o'clock.
 fn push_switch(buffer: &mut TextBuffer, day: &RuleDay, time: i32)
     requires { length buffer.old + 31 ≤ 128 }
     ensures text { buffer.new ≡ buffer.old ++ comma ∷ turn_text day.now time }
@@ -188,10 +190,12 @@ fn push_name_and_offset(buffer: &mut TextBuffer, local_time_type: &LocalTimeType
     push_offset(buffer, local_time_type.ut_offset());
 }
 
-/// Appends the daylight name, its offset unless it is an hour more than the standard one, the start and the end.
+/// Appends the daylight name, its offset unless it is an hour more than the standard one, the start
+/// and the end.
 fn push_daylight(buffer: &mut TextBuffer, rule: &AlternateTime)
     requires std { IsShortOffset rule.now.std.ut_offset }
-    requires dst { rule.now.dst.ut_offset ≢ rule.now.std.ut_offset +ℤ pos 3600 → IsShortOffset rule.now.dst.ut_offset }
+    requires dst { rule.now.dst.ut_offset ≢ rule.now.std.ut_offset +ℤ pos 3600
+        → IsShortOffset rule.now.dst.ut_offset }
     requires room { length buffer.old + 88 ≤ 128 }
     ensures text { buffer.new ≡ buffer.old ++ daylight_text rule.now }
     ensures len { length buffer.new ≤ length buffer.old + 88 }
@@ -219,7 +223,8 @@ fn is_standard(local_time_type: &LocalTimeType) -> bool
 fn is_daylight(std: i32, local_time_type: &LocalTimeType) -> bool
     requires { IsShortOffset std }
     ensures { MatchBool result
-        (IsDaylightText std local_time_type.now × IfSome local_time_type.now.designation IsDesignation)
+        (IsDaylightText std local_time_type.now
+        × IfSome local_time_type.now.designation IsDesignation)
         (¬ IsDaylightText std local_time_type.now) }
 {
     local_time_type.is_dst()
@@ -241,12 +246,14 @@ fn is_writable(rule: &TransitionRule) -> bool
 }
 
 impl TzString {
-    /// The TZ string of the rule, or `None` if no TZ string denotes it: a type has no name, its daylight flag does not match its role, or
-    /// its offset is 25 hours or more in either direction and not the default.
+    /// The TZ string of the rule, or `None` if no TZ string denotes it: a type has no name, its
+    /// daylight flag does not match its role, or its offset is 25 hours or more in either direction
+    /// and not the default.
     ///
-    /// The string is extended only if the rule has a time of day below 0:00 or above 24:59:59. Names of three letters or more are written
-    /// without angle brackets. Minutes and seconds that are zero, the time of day 2:00, and a daylight offset of an hour more than the
-    /// standard one are omitted. (POSIX.1-2017, Base Definitions, 8.3; RFC 8536, section 3.3.1)
+    /// The string is extended only if the rule has a time of day below 0:00 or above 24:59:59.
+    /// Names of three letters or more are written without angle brackets. Minutes and seconds that
+    /// are zero, the time of day 2:00, and a daylight offset of an hour more than the standard one
+    /// are omitted. (POSIX.1-2017, Base Definitions, 8.3; RFC 8536, section 3.3.1)
     ///
     /// The TZ string of the rule of a zone, if it has one:
     ///
@@ -261,8 +268,11 @@ impl TzString {
     pub fn from_rule(rule: &TransitionRule) -> Option<TzString>
         ensures text { IfSome result (λ text. text ≡ tz_text rule.now) }
         ensures denotes { IfSome result (λ text. IsTzText (is_extended rule.now) text rule.now) }
-        ensures ordinary { (text : List ℕ) → IsTzText false text rule.now → is_extended rule.now ≡ false }
-        ensures none { IfNone result ((extended : Bool) (text : List ℕ) → ¬ IsTzText extended text rule.now) }
+        ensures length { IfSome result (λ text. length text ≤ 114) }
+        ensures ordinary { (text : List ℕ) → IsTzText false text rule.now
+            → is_extended rule.now ≡ false }
+        ensures none { IfNone result ((extended : Bool) (text : List ℕ)
+            → ¬ IsTzText extended text rule.now) }
     {
         rule_parts_are_sound(rule);
         if !is_writable(rule) {

@@ -6,7 +6,8 @@ use Rattle.tz_base.specs.Days.{is_leap, month_length, IsDateOf}
 use Rattle.tz_base.specs.Fields.{IsCivil}
 
 -- the parts of a moved reading are valid fields with that reading
-pub civil_from_parts : (x : ℤ) (moved : ℕ) (year : ℤ) (month month_day nanoseconds : ℕ) → pos moved ≡ x +ℤ pos 67768111675987200
+pub civil_from_parts : (x : ℤ) (moved : ℕ) (year : ℤ) (month month_day nanoseconds : ℕ)
+    → pos moved ≡ x +ℤ pos 67768111675987200
     → IsDateOf (pos (moved / 86400) -ℤ pos 784353144398) year month month_day → nanoseconds < 1000000000
     → month_length (is_leap year) month ≤ 31
     → IsCivil x nanoseconds (record {

@@ -13,7 +13,13 @@ pub moved_together : (a b : ℤ) → (k m n : ℕ) × (a +ℤ pos (400 * k) ≡ 
 moved_together (pos a) (pos b) = (0, a, b, omega (arith, ints), omega (arith, ints))
 moved_together (pos a) (negsuc b) = (b + 1, a + 400 * (b + 1), 399 * (b + 1), omega (arith, ints), omega (arith, ints))
 moved_together (negsuc a) (pos b) = (a + 1, 399 * (a + 1), b + 400 * (a + 1), omega (arith, ints), omega (arith, ints))
-moved_together (negsuc a) (negsuc b) = (a + b + 1, 399 * a + 400 * b + 399, 400 * a + 399 * b + 399, omega (arith, ints), omega (arith, ints))
+moved_together (negsuc a) (negsuc b) = (
+  a + b + 1,
+  399 * a + 400 * b + 399,
+  400 * a + 399 * b + 399,
+  omega (arith, ints),
+  omega (arith, ints),
+)
 
 days_of_years-mono : (m n : ℕ) → m ≤ n → days_of_years m + 365 * (n - m) ≤ days_of_years n
 unfolding days_of_years
@@ -36,7 +42,8 @@ months_length-mono leap a (suc n) =
     omega (arith, months_length-mono leap a n, ap (months_length leap) next)
 
 -- later months begin after the month's last day
-months_length-after : (leap : Bool) (m m' : ℕ) → 1 ≤ m → m < m' → months_length leap (m - 1) + month_length leap m ≤ months_length leap (m' - 1)
+months_length-after : (leap : Bool) (m m' : ℕ) → 1 ≤ m → m < m'
+    → months_length leap (m - 1) + month_length leap m ≤ months_length leap (m' - 1)
 unfolding months_length
 months_length-after leap m m' low h =
     let last : suc (m - 1) ≡ m = omega arith in
@@ -51,7 +58,8 @@ gap_between (negsuc a) (pos b) h = (a + b, omega (arith, ints))
 gap_between (negsuc a) (negsuc b) h = (a - b - 1, omega (arith, ints))
 
 -- an earlier date has a smaller number
-pub day_number-mono : (y : ℤ) (m d : ℕ) (y' : ℤ) (m' d' : ℕ) → IsDay y m d → IsDay y' m' d' → IsEarlierDate y m d y' m' d' → day_number y m d <ℤ day_number y' m' d'
+pub day_number-mono : (y : ℤ) (m d : ℕ) (y' : ℤ) (m' d' : ℕ) → IsDay y m d → IsDay y' m' d'
+    → IsEarlierDate y m d y' m' d' → day_number y m d <ℤ day_number y' m' d'
 day_number-mono y m d y' m' d' day day' (inl year) =
     let low = day_in_year y m d day.month_is.0 day.month_is.1 day.month_day_is.0 day.month_day_is.1 in
     let high = day_in_year y' m' d' day'.month_is.0 day'.month_is.1 day'.month_day_is.0 day'.month_day_is.1 in
@@ -76,32 +84,54 @@ one_z : (a b : ℤ) → ¬ (a <ℤ b) → ¬ (b <ℤ a) → a ≡ b
 one_z a b f g = grind (arith, ints)
 
 -- one date for each day: neither of the two is earlier than the other
-pub date_unique : (y : ℤ) (m d : ℕ) (y' : ℤ) (m' d' : ℕ) → IsDay y m d → IsDay y' m' d' → day_number y m d ≡ day_number y' m' d' → (y ≡ y') × (m ≡ m') × (d ≡ d')
+pub date_unique : (y : ℤ) (m d : ℕ) (y' : ℤ) (m' d' : ℕ) → IsDay y m d → IsDay y' m' d'
+    → day_number y m d ≡ day_number y' m' d' → (y ≡ y') × (m ≡ m') × (d ≡ d')
 date_unique y m d y' m' d' day day' e =
-    let f : IsEarlierDate y m d y' m' d' → ⊥ = λ h. absurd (omega (arith, ints, day_number-mono y m d y' m' d' day day' h)) in
-    let g : IsEarlierDate y' m' d' y m d → ⊥ = λ h. absurd (omega (arith, ints, day_number-mono y' m' d' y m d day' day h)) in
+    let f : IsEarlierDate y m d y' m' d' → ⊥ =
+    λ h. absurd (omega (arith, ints, day_number-mono y m d y' m' d' day day' h)) in
+    let g : IsEarlierDate y' m' d' y m d → ⊥ =
+    λ h. absurd (omega (arith, ints, day_number-mono y' m' d' y m d day' day h)) in
     let year : y ≡ y' = one_z y y' (λ h. f (inl h)) (λ h. g (inl h)) in
     let month : m ≡ m' = one m m' (λ h. f (inr (year, inl h))) (λ h. g (inr (sym year, inl h))) in
     (year, month, one d d' (λ h. f (inr (year, inr (month, h)))) (λ h. g (inr (sym year, inr (sym month, h)))))
 
 -- the day of civil fields
 pub valid_day : (f : Fields) → IsValid f → IsDay f.year f.month f.month_day
-valid_day f valid = record { month_is = valid.in_range.month; month_day_is = (valid.in_range.month_day.0, valid.in_month) }
+valid_day f valid = record {
+  month_is = valid.in_range.month;
+  month_day_is = (valid.in_range.month_day.0, valid.in_month);
+}
 
-same_fields : (f g : Fields) → f.year ≡ g.year → f.month ≡ g.month → f.month_day ≡ g.month_day → f.hour ≡ g.hour → f.minute ≡ g.minute → f.second ≡ g.second → f.nanoseconds ≡ g.nanoseconds → f ≡ g
+same_fields : (f g : Fields) → f.year ≡ g.year → f.month ≡ g.month → f.month_day ≡ g.month_day → f.hour ≡ g.hour
+    → f.minute ≡ g.minute → f.second ≡ g.second → f.nanoseconds ≡ g.nanoseconds → f ≡ g
 same_fields f g year month month_day hour minute second nanoseconds =
-    let same : fields_of f.year f.month f.month_day f.hour f.minute f.second f.nanoseconds ≡ fields_of g.year g.month g.month_day g.hour g.minute g.second g.nanoseconds = cc in same
+    let same : fields_of f.year f.month f.month_day f.hour f.minute f.second f.nanoseconds
+    ≡ fields_of g.year g.month g.month_day g.hour g.minute g.second g.nanoseconds = cc in same
 
 -- one list of civil fields for each reading
 pub civil_unique : (x : ℤ) (n : ℕ) (f g : Fields) → IsCivil x n f → IsCivil x n g → f ≡ g
 civil_unique x n f g c c' =
     let a = c.valid.in_range in
     let b = c'.valid.in_range in
-    let day : day_of f ≡ day_of g = omega (arith, ints, c.reads, c'.reads, c.below_60, c'.below_60, a.hour, a.minute, b.hour, b.minute) in
-    let time : 3600 * f.hour + 60 * f.minute + f.second ≡ 3600 * g.hour + 60 * g.minute + g.second = omega (arith, ints, c.reads, c'.reads) in
-    let date = date_unique f.year f.month f.month_day g.year g.month g.month_day (valid_day f c.valid) (valid_day g c'.valid) day in
+    let day : day_of f ≡ day_of g = omega (
+      arith,
+      ints,
+      c.reads,
+      c'.reads,
+      c.below_60,
+      c'.below_60,
+      a.hour,
+      a.minute,
+      b.hour,
+      b.minute,
+    ) in
+    let time : 3600 * f.hour + 60 * f.minute + f.second ≡ 3600 * g.hour + 60 * g.minute + g.second =
+    omega (arith, ints, c.reads, c'.reads) in
+    let date = date_unique f.year f.month f.month_day g.year g.month g.month_day (valid_day f c.valid)
+    (valid_day g c'.valid) day in
     let hour : f.hour ≡ g.hour = omega (arith, c.below_60, c'.below_60, a.minute, b.minute) in
-    same_fields f g date.0 date.1 date.2 hour (omega (arith, c.below_60, c'.below_60)) (omega arith) (c.nanoseconds_are ∙ sym c'.nanoseconds_are)
+    same_fields f g date.0 date.1 date.2 hour (omega (arith, c.below_60, c'.below_60)) (omega arith)
+    (c.nanoseconds_are ∙ sym c'.nanoseconds_are)
 
 pub is_leap-period : (year : ℤ) (k : ℕ) → is_leap (year +ℤ pos (400 * k)) ≡ is_leap year
 is_leap-period year k =
@@ -126,6 +156,7 @@ pub week_day_of-period : (day : ℤ) (k : ℕ) → week_day_of (day +ℤ pos (14
 unfolding week_day_of
 week_day_of-period day k =
     let moved = weeks_before (day +ℤ pos 4) in
-    let later = int_rem_euclid_is (day +ℤ pos (146097 * k) +ℤ pos 4) (pos 7) 7 moved.0 (moved.1 + 146097 * k) (lit< tt) refl (omega (arith, ints, moved.2)) in
+    let later = int_rem_euclid_is (day +ℤ pos (146097 * k) +ℤ pos 4) (pos 7) 7 moved.0 (moved.1 + 146097 * k)
+    (lit< tt) refl (omega (arith, ints, moved.2)) in
     let here = int_rem_euclid_is (day +ℤ pos 4) (pos 7) 7 moved.0 moved.1 (lit< tt) refl moved.2 in
     later ∙ ap pos (omega arith) ∙ sym here

@@ -10,7 +10,8 @@ use Rattle.tz_base.proofs.YearStarts.{first_day-moved, year_length-moved, days_o
 
 -- a day in its parts
 pub day_number-is : (year : ℤ) (month month_day : ℕ)
-    → day_number year month month_day ≡ first_day year +ℤ pos (months_length (is_leap year) (month - 1)) +ℤ pos month_day -ℤ pos 1
+    → day_number year month month_day ≡ first_day year +ℤ pos (months_length (is_leap year) (month - 1))
+    +ℤ pos month_day -ℤ pos 1
 unfolding day_number
 day_number-is year month month_day = refl
 
@@ -23,7 +24,8 @@ unfolding all_below ends_in_year month_length months_length
 all_end_in_year false = refl
 all_end_in_year true = refl
 
-pub months_length-le_year : (leap : Bool) (months : ℕ) → months < 12 → months_length leap months + month_length leap (suc months) ≤ cond leap 366 365
+pub months_length-le_year : (leap : Bool) (months : ℕ) → months < 12
+    → months_length leap months + month_length leap (suc months) ≤ cond leap 366 365
 unfolding ends_in_year months_length
 months_length-le_year leap months h =
     let test = passes_at (ends_in_year leap) 12 months (all_end_in_year leap) h in
@@ -46,8 +48,10 @@ first_day-next (negsuc n) =
     omega (arith, ints, days_of_years-suc (399 * (n + 1)))
 
 -- a valid day is before the next year
-pub day_in_year : (year : ℤ) (month month_day : ℕ) → 1 ≤ month → month ≤ 12 → 1 ≤ month_day → month_day ≤ month_length (is_leap year) month
-    → (first_day year ≤ℤ day_number year month month_day) × ((day_number year month month_day +ℤ pos 1) ≤ℤ first_day (year +ℤ pos 1))
+pub day_in_year : (year : ℤ) (month month_day : ℕ) → 1 ≤ month → month ≤ 12 → 1 ≤ month_day
+    → month_day ≤ month_length (is_leap year) month
+    → (first_day year ≤ℤ day_number year month month_day)
+    × ((day_number year month month_day +ℤ pos 1) ≤ℤ first_day (year +ℤ pos 1))
 day_in_year year month month_day low high day_low day_high =
     let same : suc (month - 1) ≡ month = omega arith in
     let months = rw same at (months_length-le_year (is_leap year) (month - 1) (omega arith)) in
@@ -56,7 +60,8 @@ day_in_year year month month_day low high day_low day_high =
     rw (day_number-is year month month_day) (omega (arith, ints), omega (arith, ints))
 
 -- the first days of the years of 32 bits, and of the year after them
-pub first_day_bounds : (year : ℤ) → SFits w32 year → (negsuc 784353015832 ≤ℤ first_day year) × (first_day (year +ℤ pos 1) ≤ℤ pos 784351576777)
+pub first_day_bounds : (year : ℤ) → SFits w32 year → (negsuc 784353015832 ≤ℤ first_day year)
+    × (first_day (year +ℤ pos 1) ≤ℤ pos 784351576777)
 first_day_bounds year fits =
     let moved = moved_year year fits in
     let bounds = days_of_years_bounds year moved.0 fits (omega (arith, ints, moved.1)) in

@@ -12,14 +12,16 @@ use Rattle.tz_base.proofs.DateOrder.{day_number-mono, valid_day}
 
 -- the last second of all, which is a second 60
 abbrev IsLastSecond : Fields → Type 0
-IsLastSecond f = (f.year ≡ pos 2147483647) × (f.month ≡ 12) × (f.month_day ≡ 31) × (f.hour ≡ 23) × (f.minute ≡ 59) × (f.second ≡ 60)
+IsLastSecond f = (f.year ≡ pos 2147483647) × (f.month ≡ 12) × (f.month_day ≡ 31) × (f.hour ≡ 23) × (f.minute ≡ 59)
+    × (f.second ≡ 60)
 
 last_date : IsDay (pos 2147483647) 12 31
 unfolding month_length
 last_date = record { month_is = (omega arith, omega arith); month_day_is = (omega arith, omega arith) }
 
 -- the date is the last of all, or an earlier one
-by_date : (f : Fields) → IsValid f → SFits w32 f.year → IsEarlierDate f.year f.month f.month_day (pos 2147483647) 12 31 ⊎ ((f.year ≡ pos 2147483647) × (f.month ≡ 12) × (f.month_day ≡ 31))
+by_date : (f : Fields) → IsValid f → SFits w32 f.year → IsEarlierDate f.year f.month f.month_day (pos 2147483647) 12 31
+    ⊎ ((f.year ≡ pos 2147483647) × (f.month ≡ 12) × (f.month_day ≡ 31))
 by_date f valid fits =
     by_lt_z f.year (pos 2147483647) (λ h. inl (inl h)) (λ h.
     let year : f.year ≡ pos 2147483647 = omega (arith, ints, fits.sfits) in
@@ -34,10 +36,12 @@ by_date f valid fits =
     ])
 
 -- the day of an earlier date is before the last
-day_before_last : (f : Fields) → IsValid f → IsEarlierDate f.year f.month f.month_day (pos 2147483647) 12 31 → day_of f ≤ℤ pos 784351576775
+day_before_last : (f : Fields) → IsValid f → IsEarlierDate f.year f.month f.month_day (pos 2147483647) 12 31
+    → day_of f ≤ℤ pos 784351576775
 day_before_last f valid earlier =
     let fits : SFits w32 (pos 2147483647) = search rules in
-    let rise = day_number-mono f.year f.month f.month_day (pos 2147483647) 12 31 (valid_day f valid) last_date earlier in
+    let rise = day_number-mono f.year f.month f.month_day (pos 2147483647) 12 31 (valid_day f valid) last_date
+    earlier in
     let last = day_in_year (pos 2147483647) 12 31 (omega arith) (omega arith) (omega arith) last_date.month_day_is.1 in
     omega (arith, ints, (first_day_bounds (pos 2147483647) fits).1)
 

@@ -13,7 +13,8 @@ use Rattle.tz_base.proofs.DateOrder.{first_day-mono}
 use Rattle.tz_base.proofs.DaysOfYears.{day_number-is, first_day_bounds}
 
 -- January and February end a year that began in March
-day_in_early : (year : ℤ) (n month month_day days : ℕ) → year +ℤ pos 2147484000 ≡ pos (n + 1) → days ≡ 306 + months_length (is_leap year) (month - 1)
+day_in_early : (year : ℤ) (n month month_day days : ℕ) → year +ℤ pos 2147484000 ≡ pos (n + 1)
+    → days ≡ 306 + months_length (is_leap year) (month - 1)
     → pos (days_of_march_years n + days + month_day) -ℤ pos 784353144339 ≡ day_number year month month_day
 day_in_early year n month month_day days moved from_march =
     let first = first_day-moved year (n + 1) 5368710 moved in
@@ -21,11 +22,13 @@ day_in_early year n month month_day days moved from_march =
     rw (day_number-is year month month_day) (omega (arith, ints))
 
 -- the other months are in the year that begins with their March
-day_in_late : (year : ℤ) (n month month_day days : ℕ) → year +ℤ pos 2147484000 ≡ pos n → days + cond (is_leap year) 60 59 ≡ months_length (is_leap year) (month - 1)
+day_in_late : (year : ℤ) (n month month_day days : ℕ) → year +ℤ pos 2147484000 ≡ pos n
+    → days + cond (is_leap year) 60 59 ≡ months_length (is_leap year) (month - 1)
     → pos (days_of_march_years n + days + month_day) -ℤ pos 784353144339 ≡ day_number year month month_day
 day_in_late year n month month_day days moved from_march =
     let first = first_day-moved year n 5368710 moved in
-    let leap : cond {A = ℕ} (is_leap year) 60 59 ≡ cond (is_leap (pos n)) 60 59 = ap (λ b. cond b 60 59) (is_leap-moved year n 5368710 moved) in
+    let leap : cond {A = ℕ} (is_leap year) 60 59 ≡ cond (is_leap (pos n)) 60 59 =
+    ap (λ b. cond b 60 59) (is_leap-moved year n 5368710 moved) in
     let march = days_of_years-same n in
     rw (day_number-is year month month_day) (omega (arith, ints))
 
@@ -37,12 +40,15 @@ pub march_day_is : (year : ℤ) (n month month_day days : ℕ)
     → pos (days_of_march_years n + days + month_day) -ℤ pos 784353144339 ≡ day_number year month month_day
 march_day_is year n month month_day days year_early year_late days_early days_late =
     elim (cases_lt month 3) [
-      | inl early ↦ day_in_early year n month month_day days (omega (arith, ints, year_early early)) (days_early early (is_leap year))
-      | inr late ↦ day_in_late year n month month_day days (omega (arith, ints, year_late late)) (days_late late (is_leap year))
+      | inl early ↦ day_in_early year n month month_day days (omega (arith, ints, year_early early))
+          (days_early early (is_leap year))
+      | inr late ↦ day_in_late year n month month_day days (omega (arith, ints, year_late late))
+          (days_late late (is_leap year))
     ]
 
 -- the days of the years of 32 bits, with days past the end of their month
-pub day_number_bounds : (year : ℤ) (month month_day : ℕ) → SFits w32 year → 1 ≤ month → month ≤ 12 → 1 ≤ month_day → month_day ≤ 255
+pub day_number_bounds : (year : ℤ) (month month_day : ℕ) → SFits w32 year → 1 ≤ month → month ≤ 12 → 1 ≤ month_day
+    → month_day ≤ 255
     → (negsuc 784353015832 ≤ℤ day_number year month month_day) × (day_number year month month_day ≤ℤ pos 784351577001)
 day_number_bounds year month month_day fits low high day_low day_high =
     let bounds = first_day_bounds year fits in

@@ -8,17 +8,20 @@ use Rattle.tz_base.specs.Days.{is_leap}
 pub year_of_century_bound : (n : ℕ) → (4 * ((4 * n + 3) % 146097 / 4) + 3) / 1461 < 100
 year_of_century_bound n = omega arith
 
-days_of_march_years-split : (c z : ℕ) → z < 100 → days_of_march_years (100 * c + z) ≡ 36524 * c + c / 4 + 365 * z + z / 4
+days_of_march_years-split : (c z : ℕ) → z < 100
+    → days_of_march_years (100 * c + z) ≡ 36524 * c + c / 4 + 365 * z + z / 4
 unfolding days_of_march_years
 days_of_march_years-split c z h = omega arith
 
 -- day n is in year z of century c, where i is its day of the century
-pub march_year_is : (n c i z : ℕ) → c ≡ (4 * n + 3) / 146097 → i ≡ (4 * n + 3) % 146097 / 4 → z ≡ (4 * i + 3) / 1461 → z < 100
+pub march_year_is : (n c i z : ℕ) → c ≡ (4 * n + 3) / 146097 → i ≡ (4 * n + 3) % 146097 / 4 → z ≡ (4 * i + 3) / 1461
+    → z < 100
     → days_of_march_years (100 * c + z) + (4 * i + 3) % 1461 / 4 ≡ n
 march_year_is n c i z ec ei ez h = omega (arith, days_of_march_years-split c z h)
 
 -- a 366th day is February 29th of a leap year
-pub last_day_is_leap : (n c i z : ℕ) → c ≡ (4 * n + 3) / 146097 → i ≡ (4 * n + 3) % 146097 / 4 → z ≡ (4 * i + 3) / 1461 → z < 100
+pub last_day_is_leap : (n c i z : ℕ) → c ≡ (4 * n + 3) / 146097 → i ≡ (4 * n + 3) % 146097 / 4 → z ≡ (4 * i + 3) / 1461
+    → z < 100
     → (4 * i + 3) % 1461 / 4 ≡ 365 → is_leap (pos (100 * c + z + 1)) ≡ true
 unfolding is_leap
 last_day_is_leap n c i z ec ei ez h last = grind (arith, nat_tests)

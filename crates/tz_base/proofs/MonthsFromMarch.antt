@@ -10,7 +10,8 @@ use Rattle.tz_base.specs.Days.{month_length, months_length}
 
 -- the months' tables
 is_right_entry : Bool → List ℤ → ℕ → Bool
-is_right_entry leap table index = int_eq (slice_index_or table index (pos 0)) (pos (months_length leap index)) && leb (months_length leap index) 335
+is_right_entry leap table index = int_eq (slice_index_or table index (pos 0)) (pos (months_length leap index)) && leb
+    (months_length leap index) 335
 
 abbrev pub months_table : Bool → List ℤ
 months_table leap = cond leap CUMUL_DAYS_IN_MONTHS_LEAP_YEAR CUMUL_DAYS_IN_MONTHS_NORMAL_YEAR
@@ -20,7 +21,9 @@ unfolding all_below is_right_entry month_length months_length
 right_entries false = refl
 right_entries true = refl
 
-pub months_length-entry : (leap : Bool) (index : ℕ) → index < 12 → (slice_index_or (months_table leap) index (pos 0) ≡ pos (months_length leap index)) × (months_length leap index ≤ 335)
+pub months_length-entry : (leap : Bool) (index : ℕ) → index < 12
+    → (slice_index_or (months_table leap) index (pos 0) ≡ pos (months_length leap index))
+    × (months_length leap index ≤ 335)
 unfolding is_right_entry
 months_length-entry leap index h =
     let right = passes_at (is_right_entry leap (months_table leap)) 12 index (right_entries leap) h in
@@ -33,7 +36,8 @@ months_length-bound leap index h = (months_length-entry leap index h).1
 is_right_march_place : Bool → ℕ → Bool
 is_right_march_place leap place =
     leb (get_or DAYS_FROM_MARCH place 0) 337
-    && eqb (months_length leap place + cond (ltb place 2) 306 0) (get_or DAYS_FROM_MARCH place 0 + cond (ltb place 2) 0 (cond leap 60 59))
+    && eqb (months_length leap place + cond (ltb place 2) 306 0) (get_or DAYS_FROM_MARCH place 0 + cond (ltb place 2) 0
+    (cond leap 60 59))
 
 right_march : (leap : Bool) → all_below (is_right_march_place leap) 12 ≡ true
 unfolding all_below is_right_march_place month_length months_length
@@ -46,11 +50,16 @@ pub record IsFromMarch (leap : Bool) (place days : ℕ) : Type 0 where
   pub late : 2 ≤ place → days + cond leap 60 59 ≡ months_length leap place
   pub bound : days ≤ 337
 
-pub days_from_march-is : (leap : Bool) (place : ℕ) → place < 12 → IsFromMarch leap place (get_or DAYS_FROM_MARCH place 0)
+pub days_from_march-is : (leap : Bool) (place : ℕ) → place < 12
+    → IsFromMarch leap place (get_or DAYS_FROM_MARCH place 0)
 unfolding is_right_march_place
 days_from_march-is leap place h =
     let right = passes_at (is_right_march_place leap) 12 place (right_march leap) h in
-    record { early = λ small. grind (arith, nat_tests); late = λ large. grind (arith, nat_tests); bound = grind (arith, nat_tests) }
+    record {
+      early = λ small. grind (arith, nat_tests);
+      late = λ large. grind (arith, nat_tests);
+      bound = grind (arith, nat_tests);
+    }
 
 -- a day before January is in the month that is found, after the months before it
 is_right_before_january : Bool → ℕ → Bool
@@ -100,11 +109,14 @@ days_from_january : (leap : Bool) (day : ℕ) → day < 60 → (day ≡ 59 → l
 days_from_january true day h last = h
 days_from_january false day h last = grind arith
 
-IsFromJanuary-from_test : (leap : Bool) (d day : ℕ) → 306 + d ≡ day → is_right_from_january leap d ≡ true → IsFromJanuary leap day
+IsFromJanuary-from_test : (leap : Bool) (d day : ℕ) → 306 + d ≡ day → is_right_from_january leap d ≡ true
+    → IsFromJanuary leap day
 unfolding is_right_from_january
 IsFromJanuary-from_test leap d day same right = rw (← same) (grind (arith, nat_tests))
 
-pub month_from_january : (leap : Bool) (day : ℕ) → 306 ≤ day → day ≤ 365 → (day ≡ 365 → leap ≡ true) → IsFromJanuary leap day
+pub month_from_january : (leap : Bool) (day : ℕ) → 306 ≤ day → day ≤ 365 → (day ≡ 365 → leap ≡ true)
+    → IsFromJanuary leap day
 month_from_january leap day low high last =
     let within = days_from_january leap (day - 306) (omega arith) (λ e. last (omega arith)) in
-    IsFromJanuary-from_test leap (day - 306) day (omega arith) (passes_at (is_right_from_january leap) (cond leap 60 59) (day - 306) (all_from_january leap) within)
+    IsFromJanuary-from_test leap (day - 306) day (omega arith) (passes_at (is_right_from_january leap) (cond leap 60 59)
+    (day - 306) (all_from_january leap) within)

@@ -48,7 +48,8 @@ from_1970 (suc m) k =
     let next : 1970 + m + 400 * k + 1 ≡ 1970 + suc m + 400 * k = omega arith in
     omega (arith, from_1970 m k, days_of_years-suc (1970 + m + 400 * k), ap days_of_years next)
 
-before_1970 : (m k n : ℕ) → n + m ≡ 1970 + 400 * k → days_of_years n + years_length_before_1970 m ≡ days_of_years (1970 + 400 * k)
+before_1970 : (m k n : ℕ) → n + m ≡ 1970 + 400 * k
+    → days_of_years n + years_length_before_1970 m ≡ days_of_years (1970 + 400 * k)
 unfolding years_length_before_1970
 before_1970 zero k n e =
     let same : n ≡ 1970 + 400 * k = omega arith in
@@ -58,11 +59,13 @@ before_1970 (suc m) k n e =
     omega (arith, before_1970 m k (n + 1) (omega arith), days_of_years-suc n)
 
 -- the number of January 1st: n is the year, moved by cycles of 400 years
-pub first_day-moved : (year : ℤ) (n k : ℕ) → year +ℤ pos (400 * k) ≡ pos n → first_day year +ℤ pos (719528 + 146097 * k) ≡ pos (days_of_years n)
+pub first_day-moved : (year : ℤ) (n k : ℕ) → year +ℤ pos (400 * k) ≡ pos n
+    → first_day year +ℤ pos (719528 + 146097 * k) ≡ pos (days_of_years n)
 unfolding first_day
 first_day-moved year n k e = by_years (year -ℤ pos 1970) n k (omega (arith, ints))
   where
-    by_years : (years : ℤ) (n k : ℕ) → years +ℤ pos (1970 + 400 * k) ≡ pos n → first_day_after years +ℤ pos (719528 + 146097 * k) ≡ pos (days_of_years n)
+    by_years : (years : ℤ) (n k : ℕ) → years +ℤ pos (1970 + 400 * k) ≡ pos n
+        → first_day_after years +ℤ pos (719528 + 146097 * k) ≡ pos (days_of_years n)
     by_years (pos m) n k e =
         let same : 1970 + m + 400 * k ≡ n = omega (arith, ints) in
         omega (arith, ints, from_1970 m k, days_of_years-1970 k, ap days_of_years same)

@@ -1,4 +1,5 @@
--- The closed forms that the calendar computes by. Years are moved by cycles of 400 years until they are not negative.
+-- The closed forms that the calendar computes by. Years are moved by cycles of 400 years until they
+-- are not negative.
 use Rattle.std.specs.Prelude.{ℕ, ◌+◌, ◌-◌, ◌*◌, ◌/◌, ◌%◌}
 
 -- the days of this many years, from January 1st of the year 0

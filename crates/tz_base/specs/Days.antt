@@ -1,5 +1,5 @@
--- Days of the proleptic Gregorian calendar, for every whole year, counted from 1970-01-01.
--- Source: the Gregorian rule of leap years (Inter gravissimas, 1582), carried to all years as in ISO 8601.
+-- Days of the proleptic Gregorian calendar, for every whole year, counted from 1970-01-01. Source:
+-- the Gregorian rule of leap years (Inter gravissimas, 1582), carried to all years as in ISO 8601.
 use Rattle.std.specs.Prelude.{◌≡◌, ℕ, zero, suc, ◌+◌, ◌-◌, ◌%◌, ◌<◌, ◌≤◌, ◌⊎◌, ◌<ℤ◌, ◌==◌, ◌&&◌, ◌||◌, not, Bool, ℤ, pos, negsuc, ◌+ℤ◌, ◌-ℤ◌, neg_ℤ, unsigned_abs, if◌then◌else◌}
 use Rattle.std.specs.Int.{int_rem_euclid}
 
@@ -15,7 +15,8 @@ is_leap year = divides 400 year || (divides 4 year && not (divides 100 year))
 unfoldable pub year_length : ℤ → ℕ
 year_length year = if is_leap year then 366 else 365
 
--- how many days a month has: April, June, September and November 30, February 28 or 29, the others 31
+-- how many days a month has: April, June, September and November 30, February 28 or 29, the others
+-- 31
 unfoldable pub month_length : Bool → ℕ → ℕ
 month_length leap month =
     if month == 2
@@ -30,12 +31,14 @@ months_length leap (suc months) = months_length leap months + month_length leap 
 -- the days of this many years from 1970 on
 unfoldable pub years_length_from_1970 : ℕ → ℕ
 years_length_from_1970 zero = 0
-years_length_from_1970 (suc years) = years_length_from_1970 years + year_length (pos 1970 +ℤ pos years)
+years_length_from_1970 (suc years) =
+    years_length_from_1970 years + year_length (pos 1970 +ℤ pos years)
 
 -- the days of this many years before 1970
 unfoldable pub years_length_before_1970 : ℕ → ℕ
 years_length_before_1970 zero = 0
-years_length_before_1970 (suc years) = years_length_before_1970 years + year_length (pos 1969 -ℤ pos years)
+years_length_before_1970 (suc years) =
+    years_length_before_1970 years + year_length (pos 1969 -ℤ pos years)
 
 -- the number of the day that is this many years after January 1st of 1970, or before it
 abbrev pub first_day_after : ℤ → ℤ
@@ -48,7 +51,8 @@ first_day year = first_day_after (year -ℤ pos 1970)
 
 -- the number of a day
 unfoldable pub day_number : ℤ → ℕ → ℕ → ℤ
-day_number year month month_day = first_day year +ℤ pos (months_length (is_leap year) (month - 1)) +ℤ pos month_day -ℤ pos 1
+day_number year month month_day = first_day year +ℤ pos (months_length (is_leap year) (month - 1))
+    +ℤ pos month_day -ℤ pos 1
 
 -- the week day of a day, where Sunday is 0: 1970-01-01 is a Thursday
 unfoldable pub week_day_of : ℤ → ℤ

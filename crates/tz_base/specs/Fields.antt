@@ -8,7 +8,15 @@ use Rattle.tz_base.specs.declared.error.datetime.DateTimeError.TheVariants.{Inva
 -- the fields with these values, in the order in which calls take them
 abbrev pub fields_of : ℤ → ℕ → ℕ → ℕ → ℕ → ℕ → ℕ → Fields
 fields_of year month month_day hour minute second nanoseconds =
-    record { year = year; month = month; month_day = month_day; hour = hour; minute = minute; second = second; nanoseconds = nanoseconds }
+    record {
+      year = year;
+      month = month;
+      month_day = month_day;
+      hour = hour;
+      minute = minute;
+      second = second;
+      nanoseconds = nanoseconds;
+    }
 
 -- the month is one of twelve
 abbrev pub IsMonth : ℕ → Type 0
@@ -18,7 +26,8 @@ IsMonth month = (1 ≤ month) × (month ≤ 12)
 abbrev pub IsMonthDay : ℕ → Type 0
 IsMonthDay day = (1 ≤ day) × (day ≤ 31)
 
--- each field is in its range, but the day may be past the end of its month; second 60 is a second of any minute
+-- each field is in its range, but the day may be past the end of its month; second 60 is a second
+-- of any minute
 pub record IsInRange (f : Fields) : Type 0 where
   pub month : IsMonth f.month
   pub month_day : IsMonthDay f.month_day
@@ -36,24 +45,31 @@ pub record IsValid (f : Fields) : Type 0 where
   pub in_range : IsInRange f
   pub in_month : f.month_day ≤ length_of_month f
 
--- the fault that is named if there are several: the first in this order, and last of all a day past the end of its month
+-- the fault that is named if there are several: the first in this order, and last of all a day past
+-- the end of its month
 abbrev pub IsFirstFault : Fields → DateTimeError → Type 0
 IsFirstFault f InvalidMonth = ¬ IsMonth f.month
-IsFirstFault f InvalidMonthDay = IsMonth f.month × (¬ IsMonthDay f.month_day ⊎ (IsInRange f × (length_of_month f < f.month_day)))
+IsFirstFault f InvalidMonthDay = IsMonth f.month
+    × (¬ IsMonthDay f.month_day ⊎ (IsInRange f × (length_of_month f < f.month_day)))
 IsFirstFault f InvalidHour = IsMonth f.month × IsMonthDay f.month_day × (23 < f.hour)
-IsFirstFault f InvalidMinute = IsMonth f.month × IsMonthDay f.month_day × (f.hour ≤ 23) × (59 < f.minute)
-IsFirstFault f InvalidSecond = IsMonth f.month × IsMonthDay f.month_day × (f.hour ≤ 23) × (f.minute ≤ 59) × (60 < f.second)
-IsFirstFault f InvalidNanoseconds = IsMonth f.month × IsMonthDay f.month_day × (f.hour ≤ 23) × (f.minute ≤ 59) × (f.second ≤ 60) × (1000000000 ≤ f.nanoseconds)
+IsFirstFault f InvalidMinute = IsMonth f.month × IsMonthDay f.month_day × (f.hour ≤ 23)
+    × (59 < f.minute)
+IsFirstFault f InvalidSecond = IsMonth f.month × IsMonthDay f.month_day × (f.hour ≤ 23)
+    × (f.minute ≤ 59) × (60 < f.second)
+IsFirstFault f InvalidNanoseconds = IsMonth f.month × IsMonthDay f.month_day × (f.hour ≤ 23)
+    × (f.minute ≤ 59) × (f.second ≤ 60) × (1000000000 ≤ f.nanoseconds)
 
 -- the number of the day of the fields
 abbrev pub day_of : Fields → ℤ
 day_of f = day_number f.year f.month f.month_day
 
--- the seconds from 1970-01-01 00:00:00 to the fields; second 60 reads as the next minute's first second
+-- the seconds from 1970-01-01 00:00:00 to the fields; second 60 reads as the next minute's first
+-- second
 abbrev pub reading : Fields → ℤ
 reading f = pos 86400 *ℤ day_of f +ℤ pos (3600 * f.hour + 60 * f.minute + f.second)
 
--- the fields that a clock shows at the reading: valid ones with a second below 60 and these nanoseconds
+-- the fields that a clock shows at the reading: valid ones with a second below 60 and these
+-- nanoseconds
 pub record IsCivil (x : ℤ) (nanoseconds : ℕ) (f : Fields) : Type 0 where
   pub valid : IsValid f
   pub below_60 : f.second < 60

@@ -61,7 +61,8 @@ pub const CUMUL_DAYS_IN_MONTHS_LEAP_YEAR: [i64; 12] = [
     0, 31, 60, 91, 121, 152, 182, 213, 244, 274, 305, 335,
 ];
 
-/// The Unix time of 2000-03-01T00:00:00Z, the first day after a leap day that ends a cycle of 400 years.
+/// The Unix time of 2000-03-01T00:00:00Z, the first day after a leap day that ends a cycle of 400
+/// years.
 pub const UNIX_OFFSET_SECS: i64 = 951_868_800;
 
 /// The year of that day.

@@ -1,6 +1,7 @@
 //! The seven fields of a date time: their check, their reading, and the fields of a reading.
 //!
-//! A reading counts the seconds from 1970-01-01 00:00:00 to the fields of a date time, whatever clock shows them.
+//! A reading counts the seconds from 1970-01-01 00:00:00 to the fields of a date time, whatever
+//! clock shows them.
 
 ghost use Rattle.std.specs.Prelude.{◌≡◌, ◌<◌, ◌≤◌, pos, negsuc, ◌+ℤ◌, ◌-ℤ◌, ◌≤ℤ◌, OnOk, IfSome, IfNone, IfErr, MatchBool};
 ghost use Rattle.tz_base.specs.Days.{first_day, week_day_of};
@@ -40,7 +41,7 @@ const FIRST_READING: i64 = -67_768_100_567_971_200;
 const LAST_READING: i64 = 67_767_976_233_532_799;
 
 /// Whether the reading is in a year of 32 bits.
-pub fn is_reading(reading: i64) -> bool
+pub const fn is_reading(reading: i64) -> bool
     ensures { MatchBool result (IsReading reading) (¬ IsReading reading) }
 {
     FIRST_READING <= reading && reading <= LAST_READING
@@ -48,12 +49,12 @@ pub fn is_reading(reading: i64) -> bool
 
 /// The reading of a clock with this offset from UTC at a Unix time, if it is in a year of 32 bits.
 #[inline(always)]
-pub fn local_reading(unix_time: i64, ut_offset: i32) -> Option<i64>
+pub const fn local_reading(unix_time: i64, ut_offset: i32) -> Option<i64>
     ensures some { IfSome result (λ x. (x ≡ unix_time +ℤ ut_offset) × IsReading x) }
     ensures none { IfNone result (¬ IsReading (unix_time +ℤ ut_offset)) }
 {
     // A sum that wraps is in no year of 32 bits, and nor is the true one.
-    let reading = unix_time.wrapping_add(i64::from(ut_offset));
+    let reading = unix_time.wrapping_add(ut_offset as i64);
     if is_reading(reading) {
         Some(reading)
     } else {
@@ -64,7 +65,7 @@ pub fn local_reading(unix_time: i64, ut_offset: i32) -> Option<i64>
 impl Fields {
     /// The fields with these values.
     #[inline(always)]
-    pub fn new(
+    pub const fn new(
         year: i32,
         month: u8,
         month_day: u8,
@@ -90,9 +91,9 @@ impl Fields {
     ///
     /// # Errors
     ///
-    /// The variant of the first field that is out of range, in the order of the fields, or else [`DateTimeError::InvalidMonthDay`] if the month does
-    /// not have the day.
-    pub fn check(&self) -> Result<(), DateTimeError>
+    /// The variant of the first field that is out of range, in the order of the fields, or else
+    /// [`DateTimeError::InvalidMonthDay`] if the month does not have the day.
+    pub const fn check(&self) -> Result<(), DateTimeError>
         ensures ok { OnOk result (IsValid self.now) }
         ensures err { IfErr result (IsFirstFault self.now) }
     {
@@ -120,20 +121,19 @@ impl Fields {
         Ok(())
     }
 
-    /// The seconds from 1970-01-01 00:00:00 to the fields. Second 60 reads as the next minute's first second.
-    pub fn reading(&self) -> i64
+    /// The seconds from 1970-01-01 00:00:00 to the fields. Second 60 reads as the next minute's
+    /// first second.
+    pub const fn reading(&self) -> i64
         requires { IsValid self.now }
         ensures value { result ≡ reading_of self.now }
         ensures bound { (negsuc 67768100567971199 ≤ℤ result) × (result ≤ℤ pos 67767976233532800) }
     {
-        let second_of_day = 3600 * u32::from(self.hour)
-            + 60 * u32::from(self.minute)
-            + u32::from(self.second);
-        SECONDS_PER_DAY * self.day() + i64::from(second_of_day)
+        let second_of_day = 3600 * self.hour as u32 + 60 * self.minute as u32 + self.second as u32;
+        SECONDS_PER_DAY * self.day() + second_of_day as i64
     }
 
     /// The number of the day of the fields, where 1970-01-01 has the number 0.
-    fn day(&self) -> i64
+    const fn day(&self) -> i64
         requires { IsValid self.now }
         ensures value { result ≡ day_of self.now }
         ensures bound { (negsuc 784353015832 ≤ℤ result) × (result ≤ℤ pos 784351576776) }
@@ -142,7 +142,7 @@ impl Fields {
     }
 
     /// The fields that a clock shows at the reading.
-    pub fn from_reading(reading: i64, nanoseconds: u32) -> Fields
+    pub const fn from_reading(reading: i64, nanoseconds: u32) -> Fields
         requires in_range { IsReading reading }
         requires part { nanoseconds < 1000000000 }
         ensures { IsCivil reading nanoseconds result }
@@ -162,7 +162,7 @@ impl Fields {
     }
 
     /// The week day, from Sunday = 0.
-    pub fn week_day(&self) -> u8
+    pub const fn week_day(&self) -> u8
         requires { IsValid self.now }
         ensures value { pos result ≡ week_day_of (day_of self.now) }
         ensures bound { result < 7 }
@@ -171,11 +171,11 @@ impl Fields {
     }
 
     /// The day of the year, from January 1st = 0.
-    pub fn year_day(&self) -> u16
+    pub const fn year_day(&self) -> u16
         requires { IsValid self.now }
         ensures value { pos result ≡ day_of self.now -ℤ first_day self.now.year }
         ensures bound { result ≤ 365 }
     {
-        days_before_month(is_leap_year(self.year), self.month) + u16::from(self.month_day) - 1
+        days_before_month(is_leap_year(self.year), self.month) + self.month_day as u16 - 1
     }
 }

@@ -1,5 +1,5 @@
-//! Laws of the calendar, over every whole year, and of the constants, for proofs of programs that use them: a call of a law makes its contract
-//! known.
+//! Laws of the calendar, over every whole year, and of the constants, for proofs of programs that
+//! use them: a call of a law makes its contract known.
 //!
 //! Each function does nothing; its contract is the law.
 
@@ -12,12 +12,15 @@ use crate::constants::*;
 
 /// A reading has one list of civil fields.
 pub fn civil_fields_are_unique()
-    ensures { (x : ℤ) (nanoseconds : ℕ) (f g : Fields) → IsCivil x nanoseconds f → IsCivil x nanoseconds g → f ≡ g }
+    ensures { (x : ℤ) (nanoseconds : ℕ) (f g : Fields) → IsCivil x nanoseconds f
+        → IsCivil x nanoseconds g
+        → f ≡ g }
 {}
 
 /// An earlier date has a smaller number.
 pub fn day_numbers_rise()
-    ensures { (y : ℤ) (m d : ℕ) (y' : ℤ) (m' d' : ℕ) → IsDay y m d → IsDay y' m' d' → IsEarlierDate y m d y' m' d' → day_number y m d <ℤ day_number y' m' d' }
+    ensures { (y : ℤ) (m d : ℕ) (y' : ℤ) (m' d' : ℕ) → IsDay y m d → IsDay y' m' d'
+        → IsEarlierDate y m d y' m' d' → day_number y m d <ℤ day_number y' m' d' }
 {}
 
 /// The next year begins when the days of the year are over.
@@ -28,8 +31,11 @@ pub fn years_follow()
 /// After 400 years leap years and week days repeat, 146097 days later.
 pub fn years_repeat()
     ensures leap { (year : ℤ) (cycles : ℕ) → is_leap (year +ℤ pos (400 * cycles)) ≡ is_leap year }
-    ensures first { (year : ℤ) (cycles : ℕ) → first_day (year +ℤ pos (400 * cycles)) ≡ first_day year +ℤ pos (146097 * cycles) }
-    ensures week_day { (day : ℤ) (cycles : ℕ) → week_day_of (day +ℤ pos (146097 * cycles)) ≡ week_day_of day }
+    ensures first { (year : ℤ) (cycles : ℕ)
+        → first_day (year +ℤ pos (400 * cycles)) ≡ first_day year +ℤ pos
+        (146097 * cycles) }
+    ensures week_day { (day : ℤ) (cycles : ℕ)
+        → week_day_of (day +ℤ pos (146097 * cycles)) ≡ week_day_of day }
 {}
 
 /// The values of the constants.
@@ -51,13 +57,17 @@ pub fn constants_have_their_values()
     ensures days_per_100_years { DAYS_PER_100_YEARS ≡ pos 36524 }
     ensures days_per_400_years { DAYS_PER_400_YEARS ≡ pos 146097 }
     ensures days_in_months_normal_year { DAYS_IN_MONTHS_NORMAL_YEAR
-        ≡ pos 31 ∷ pos 28 ∷ pos 31 ∷ pos 30 ∷ pos 31 ∷ pos 30 ∷ pos 31 ∷ pos 31 ∷ pos 30 ∷ pos 31 ∷ pos 30 ∷ pos 31 ∷ [] }
+        ≡ pos 31 ∷ pos 28 ∷ pos 31 ∷ pos 30 ∷ pos 31 ∷ pos 30 ∷ pos 31 ∷ pos 31 ∷ pos 30 ∷ pos 31
+        ∷ pos 30 ∷ pos 31 ∷ [] }
     ensures cumul_days_in_months_normal_year { CUMUL_DAYS_IN_MONTHS_NORMAL_YEAR
-        ≡ pos 0 ∷ pos 31 ∷ pos 59 ∷ pos 90 ∷ pos 120 ∷ pos 151 ∷ pos 181 ∷ pos 212 ∷ pos 243 ∷ pos 273 ∷ pos 304 ∷ pos 334 ∷ [] }
+        ≡ pos 0 ∷ pos 31 ∷ pos 59 ∷ pos 90 ∷ pos 120 ∷ pos 151 ∷ pos 181 ∷ pos 212 ∷ pos 243
+        ∷ pos 273 ∷ pos 304 ∷ pos 334 ∷ [] }
     ensures cumul_days_in_months_leap_year { CUMUL_DAYS_IN_MONTHS_LEAP_YEAR
-        ≡ pos 0 ∷ pos 31 ∷ pos 60 ∷ pos 91 ∷ pos 121 ∷ pos 152 ∷ pos 182 ∷ pos 213 ∷ pos 244 ∷ pos 274 ∷ pos 305 ∷ pos 335 ∷ [] }
+        ≡ pos 0 ∷ pos 31 ∷ pos 60 ∷ pos 91 ∷ pos 121 ∷ pos 152 ∷ pos 182 ∷ pos 213 ∷ pos 244
+        ∷ pos 274 ∷ pos 305 ∷ pos 335 ∷ [] }
     ensures unix_offset_secs { UNIX_OFFSET_SECS ≡ pos 951868800 }
     ensures offset_year { OFFSET_YEAR ≡ pos 2000 }
     ensures day_in_months_leap_year_from_march { DAY_IN_MONTHS_LEAP_YEAR_FROM_MARCH
-        ≡ pos 31 ∷ pos 30 ∷ pos 31 ∷ pos 30 ∷ pos 31 ∷ pos 31 ∷ pos 30 ∷ pos 31 ∷ pos 30 ∷ pos 31 ∷ pos 31 ∷ pos 29 ∷ [] }
+        ≡ pos 31 ∷ pos 30 ∷ pos 31 ∷ pos 30 ∷ pos 31 ∷ pos 31 ∷ pos 30 ∷ pos 31 ∷ pos 30 ∷ pos 31
+        ∷ pos 31 ∷ pos 29 ∷ [] }
 {}

@@ -1,5 +1,6 @@
-//! What the crates above share: the constants, the error types, the proleptic Gregorian calendar both ways, the fields of date times, and instants
-//! as totals of nanoseconds.
+//! What the crates above share: the constants, the error types, the proleptic Gregorian calendar
+//! both ways, the fields of date times, instants as totals of nanoseconds, and the order of
+//! numbers.
 #![tactic(auto)]
 
 pub mod calendar;
@@ -7,4 +8,5 @@ pub mod constants;
 pub mod error;
 pub mod fields;
 pub mod laws;
+pub mod order;
 pub mod total_nanoseconds;

@@ -1,4 +1,4 @@
--- The answers at the places of a column, one after the other.
+-- The answers at the indexes of a column, one after the other.
 use Rattle.std.proofs.Common.{◌≡◌, ◌≢◌, inl, inr, ◌∙◌, refl, sym, ap, arith, ℕ, zero, suc, ◌+◌, ◌<◌, ◌≤◌, List, [], ◌∷◌, length, Some, slice_set, slice_index_or}
 use Rattle.std.specs.Prelude.{slice_get}
 use Rattle.std.proofs.lemmas.Bool.{cases_lt}
@@ -19,14 +19,18 @@ set_other (x ∷ xs) zero (suc j) b other = refl
 set_other (x ∷ xs) (suc i) zero b other = refl
 set_other (x ∷ xs) (suc i) (suc j) b other = set_other xs i j b (λ e. other (ap suc e))
 
--- the places before the n-th are answered, and the others are as they were
-pub record AreAnswersUpTo {B : Type 0} (IsAnswerAt : ℕ → ℕ → B → Type 0) (before after : List B) (codes : List ℕ) (n : ℕ) : Type 0 where
+-- the indexes before the n-th are answered, and the others are as they were
+pub record AreAnswersUpTo {B : Type 0} (IsAnswerAt : ℕ → ℕ → B → Type 0) (before after : List B) (codes : List ℕ)
+    (n : ℕ) : Type 0 where
   pub lengths_are : (length after ≡ length before) × (length codes ≡ length before)
-  pub answered : (i : ℕ) (code : ℕ) (b : B) → i < n → slice_get codes i ≡ Some code → slice_get after i ≡ Some b → IsAnswerAt i code b
-  pub kept : (i : ℕ) (code : ℕ) → i < n → slice_get codes i ≡ Some code → code ≢ 0 → slice_get after i ≡ slice_get before i
+  pub answered : (i : ℕ) (code : ℕ) (b : B) → i < n → slice_get codes i ≡ Some code → slice_get after i ≡ Some b
+      → IsAnswerAt i code b
+  pub kept : (i : ℕ) (code : ℕ) → i < n → slice_get codes i ≡ Some code → code ≢ 0
+      → slice_get after i ≡ slice_get before i
   pub rest : (i : ℕ) → n ≤ i → slice_get after i ≡ slice_get before i
 
-pub none_yet : {B : Type 0} (IsAnswerAt : ℕ → ℕ → B → Type 0) (before : List B) (codes : List ℕ) → length codes ≡ length before
+pub none_yet : {B : Type 0} (IsAnswerAt : ℕ → ℕ → B → Type 0) (before : List B) (codes : List ℕ)
+    → length codes ≡ length before
     → AreAnswersUpTo IsAnswerAt before before codes 0
 none_yet P before codes same = record {
   lengths_are = (refl, same);
@@ -35,24 +39,29 @@ none_yet P before codes same = record {
   rest = λ i from. refl;
 }
 
-pub one_more : {B : Type 0} (IsAnswerAt : ℕ → ℕ → B → Type 0) (before after : List B) (codes : List ℕ) (n code : ℕ) (b d : B)
-    → AreAnswersUpTo IsAnswerAt before after codes n → n < length before → IsAnswerAt n code b → (code ≢ 0 → b ≡ slice_index_or after n d)
+pub one_more : {B : Type 0} (IsAnswerAt : ℕ → ℕ → B → Type 0) (before after : List B) (codes : List ℕ) (n code : ℕ)
+    (b d : B)
+    → AreAnswersUpTo IsAnswerAt before after codes n → n < length before → IsAnswerAt n code b
+    → (code ≢ 0 → b ≡ slice_index_or after n d)
     → AreAnswersUpTo IsAnswerAt before (slice_set after n b) (slice_set codes n code) (n + 1)
 one_more {B} P before after codes n code b d so_far within is stays = record {
   lengths_are = (length-set after n b ∙ so_far.lengths_are.0, length-set codes n code ∙ so_far.lengths_are.1);
   answered = λ i c x less has_code has.
       elim (cases_lt i n) [
         | inl earlier ↦ let other : i ≢ n = omega (arith, earlier) in
-            so_far.answered i c x earlier (sym (set_other codes n i code other) ∙ has_code) (sym (set_other after n i b other) ∙ has)
+            so_far.answered i c x earlier (sym (set_other codes n i code other) ∙ has_code)
+            (sym (set_other after n i b other) ∙ has)
         | inr later ↦ let same : i ≡ n = omega (arith, less, later) in here i c x same has_code has
       ];
   kept = λ i c less has_code fault.
       elim (cases_lt i n) [
         | inl earlier ↦ let other : i ≢ n = omega (arith, earlier) in
-            set_other after n i b other ∙ so_far.kept i c earlier (sym (set_other codes n i code other) ∙ has_code) fault
+            set_other after n i b other ∙ so_far.kept i c earlier (sym (set_other codes n i code other) ∙ has_code)
+            fault
         | inr later ↦ let same : i ≡ n = omega (arith, less, later) in here_kept i c same has_code fault
       ];
-  rest = λ i from. let other : i ≢ n = omega (arith, from) in let from_n : n ≤ i = omega (arith, from) in set_other after n i b other ∙ so_far.rest i from_n;
+  rest = λ i from. let other : i ≢ n = omega (arith, from) in let from_n : n ≤ i = omega (arith, from) in
+      set_other after n i b other ∙ so_far.rest i from_n;
 }
   where
     in_after : n < length after
@@ -67,14 +76,17 @@ one_more {B} P before after codes n code b d so_far within is stays = record {
     value_is : (x : B) → slice_get (slice_set after n b) n ≡ Some x → b ≡ x
     value_is x has = let both : Some b ≡ Some x = sym (set_same after n b in_after) ∙ has in cc
 
-    here : (i c : ℕ) (x : B) → i ≡ n → slice_get (slice_set codes n code) i ≡ Some c → slice_get (slice_set after n b) i ≡ Some x → P i c x
+    here : (i c : ℕ) (x : B) → i ≡ n → slice_get (slice_set codes n code) i ≡ Some c
+        → slice_get (slice_set after n b) i ≡ Some x → P i c x
     here i c x same has_code has =
         rw (same, sym (code_is c (rw same at has_code)), sym (value_is x (rw same at has))) is
 
-    here_kept : (i c : ℕ) → i ≡ n → slice_get (slice_set codes n code) i ≡ Some c → c ≢ 0 → slice_get (slice_set after n b) i ≡ slice_get before i
+    here_kept : (i c : ℕ) → i ≡ n → slice_get (slice_set codes n code) i ≡ Some c → c ≢ 0
+        → slice_get (slice_set after n b) i ≡ slice_get before i
     here_kept i c same has_code fault =
         let fails : code ≢ 0 = λ e. fault (sym (code_is c (rw same at has_code)) ∙ e) in
-        rw same (set_same after n b in_after ∙ ap Some (stays fails) ∙ sym (slice_get-get_or after n d in_after) ∙ so_far.rest n (omega arith))
+        rw same (set_same after n b in_after ∙ ap Some (stays fails) ∙ sym (slice_get-get_or after n d in_after)
+        ∙ so_far.rest n (omega arith))
 
 pub all_of : {B : Type 0} (IsAnswerAt : ℕ → ℕ → B → Type 0) (before after : List B) (codes : List ℕ) (n : ℕ)
     → AreAnswersUpTo IsAnswerAt before after codes n → length before ≤ n → AreAnswers IsAnswerAt before after codes

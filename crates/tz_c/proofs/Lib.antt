@@ -1,5 +1,6 @@
 pub mod AnswersInTurn
-pub mod ClockPlaces
+pub mod ClockIndexes
 pub mod DaySeconds
 pub mod CodeTexts
 pub mod NameBytes
+pub mod SingleCalls

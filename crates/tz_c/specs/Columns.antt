@@ -1,5 +1,6 @@
--- What calls over whole columns answer: at each place what the call for one value does.
-use Rattle.std.specs.Prelude.{◌≡◌, ◌≢◌, ◌⊎◌, ℕ, ◌≤◌, ℤ, pos, negsuc, ◌+ℤ◌, ◌*ℤ◌, ◌≤ℤ◌, ◌<ℤ◌, List, length, Option, Some, None, slice_get}
+-- What calls over whole columns answer: at each index what the call for one value does.
+use Rattle.std.specs.Prelude.{FitsSigned, ◌≡◌, ◌≢◌, ◌⊎◌, ℕ, ◌≤◌, ℤ, pos, negsuc, ◌+ℤ◌, ◌*ℤ◌, ◌≤ℤ◌, ◌<ℤ◌, List, length, Option, Some, None, slice_get}
+use Rattle.std.specs.Int.{w32}
 use Rattle.tz_base.specs.declared.error.tz_error.TzError.{TzError}
 use Rattle.tz_base.specs.declared.fields.Fields.{Fields}
 use Rattle.tz_base.specs.Days.{day_number, is_leap, month_length}
@@ -10,7 +11,7 @@ use Rattle.tz_zone.specs.Table.{Zone}
 use Rattle.tz.specs.DateTimes.{DateTime, IsClockFault, ShowsByClock}
 use Rattle.tz.specs.Meanings.{IsMeaning, IsMeaningFault}
 use Rattle.tz.specs.declared.datetime.disambiguation.Disambiguation.{Disambiguation}
-use Rattle.tz.specs.declared.datetime.date_time_data.DateTimeData.{DateTimeData}
+use Rattle.tz.specs.declared.datetime.date_time.DateTimeData.{DateTimeData}
 use Rattle.tz_c.specs.Codes.{IsAnswer, IsAnswerOr, buffer_length, code_of, no_date_time, unknown_choice}
 use Rattle.tz_c.specs.DateTimes.{CanBeSearched, IsDateTimeDataOf}
 use Rattle.tz_c.specs.declared.columns.Day.{Day}
@@ -27,46 +28,56 @@ pub record IsDay (d : Day) : Type 0 where
 abbrev pub IsInDay : Day → ℤ → Type 0
 IsInDay d x = (d.start ≤ℤ x) × (x <ℤ (d.start +ℤ pos 86400))
 
--- the columns of values and of codes have so many places
+-- the columns of values and of codes have so many indexes
 abbrev pub AreOfLength : {V : Type 0} → ℕ → List V → List ℕ → Type 0
 AreOfLength count values codes = (length values ≡ count) × (length codes ≡ count)
 
--- a code and a value are written at each place, and are the answer there; where the code is that of an error the value is the one before
-pub record AreAnswers {V : Type 0} (IsAnswerAt : ℕ → ℕ → V → Type 0) (before after : List V) (codes : List ℕ) : Type 0 where
+-- a code and a value are written at each index, and are the answer there; where the code is that of
+-- an error the value is the one before
+pub record AreAnswers {V : Type 0} (IsAnswerAt : ℕ → ℕ → V → Type 0) (before after : List V)
+    (codes : List ℕ) : Type 0 where
   pub lengths_are : (length after ≡ length before) × (length codes ≡ length before)
-  pub answered : (i : ℕ) (code : ℕ) (value : V) → slice_get codes i ≡ Some code → slice_get after i ≡ Some value → IsAnswerAt i code value
-  pub kept : (i : ℕ) (code : ℕ) → slice_get codes i ≡ Some code → code ≢ 0 → slice_get after i ≡ slice_get before i
+  pub answered : (i : ℕ) (code : ℕ) (value : V) → slice_get codes i ≡ Some code
+      → slice_get after i ≡ Some value → IsAnswerAt i code value
+  pub kept : (i : ℕ) (code : ℕ) → slice_get codes i ≡ Some code → code ≢ 0
+      → slice_get after i ≡ slice_get before i
 
 -- the clock's offset at an instant
 abbrev pub IsOffset : Zone → ℤ → ℤ → Type 0
 IsOffset z u offset = (t : LocalTimeType) × IsClock z u t × (offset ≡ t.ut_offset)
 
--- the answer at a place: the clock's offset at the instant of the place
+-- the answer at an index: the clock's offset at the instant of the index
 abbrev pub IsOffsetAt : Zone → List ℤ → ℕ → ℕ → ℤ → Type 0
-IsOffsetAt z unix_times i code offset = (u : ℤ) → slice_get unix_times i ≡ Some u → IsAnswer code (IsOffset z u offset) (IsLookupFault z u)
+IsOffsetAt z unix_times i code offset = (u : ℤ) → slice_get unix_times i ≡ Some u
+    → IsAnswer code (IsOffset z u offset) (IsLookupFault z u)
 
--- what the clock shows at the instant of the place
+-- what the clock shows at the instant of the index
 abbrev pub IsDateTimeAt : Zone → List ℤ → List ℕ → ℕ → ℕ → DateTimeData → Type 0
 IsDateTimeAt z unix_times nanoseconds i code written =
     (u : ℤ) (n : ℕ) → slice_get unix_times i ≡ Some u → slice_get nanoseconds i ≡ Some n
     → IsAnswer code (IsDateTimeDataOf (ShowsByClock z u n) written) (IsClockFault z u n)
 
--- the instant of the date time that fields mean by a choice, or none is meant, or there is a fault
+-- the instant of the date time that fields mean by a choice, whose year fits 32 bits as that of one
+-- that is written does, or none is meant, or there is a fault
 abbrev pub IsInstantAnswer : Zone → Disambiguation → Fields → ℕ → ℤ → Type 0
 IsInstantAnswer z choice f code u =
     ((code ≡ 0) × CanBeSearched z f
-    × ((d : DateTime) × IsMeaning z choice f (Some d) × (u ≡ d.unix_time)))
+    × ((d : DateTime) × IsMeaning z choice f (Some d) × FitsSigned w32 d.fields.year
+    × (u ≡ d.unix_time)))
     ⊎ ((code ≡ no_date_time) × CanBeSearched z f × IsMeaning z choice f None)
     ⊎ ((e : TzError) × (code ≡ code_of e) × IsMeaningFault z choice f e)
 
--- the instant that the fields of the place mean
+-- the instant that the fields of the index mean
 abbrev pub IsInstantAt : Zone → Disambiguation → List Fields → ℕ → ℕ → ℤ → Type 0
-IsInstantAt z choice fields i code u = (f : Fields) → slice_get fields i ≡ Some f → IsInstantAnswer z choice f code u
+IsInstantAt z choice fields i code u = (f : Fields) → slice_get fields i ≡ Some f
+    → IsInstantAnswer z choice f code u
 
 -- the same of a whole column by the number of a choice
-abbrev pub AreInstantsBy : Zone → Option Disambiguation → List Fields → ℕ → List ℤ → List ℤ → List ℕ → List ℕ → Type 0
+abbrev pub AreInstantsBy : Zone → Option Disambiguation → List Fields → ℕ → List ℤ → List ℤ → List ℕ
+    → List ℕ → Type 0
 AreInstantsBy z None fields code before after codes_before codes = code ≡ unknown_choice
 AreInstantsBy z (Some choice) fields code before after codes_before codes =
     IsAnswerOr code buffer_length
-    (AreOfLength (length fields) before codes_before × AreAnswers (IsInstantAt z choice fields) before after codes)
+    (AreOfLength (length fields) before codes_before
+    × AreAnswers (IsInstantAt z choice fields) before after codes)
     (¬ AreOfLength (length fields) before codes_before)

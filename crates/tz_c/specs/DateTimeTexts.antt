@@ -6,7 +6,7 @@ use Rattle.tz.specs.declared.parse.error.DateTimePart.{DateTimePart}
 use Rattle.tz.specs.declared.parse.error.DateTimePart.TheVariants as parts
 use Rattle.tz.specs.declared.parse.error.ParseDateTimeError.{ParseDateTimeError}
 use Rattle.tz.specs.declared.parse.parsed_date_time.ParsedDateTime.{ParsedDateTime}
-use Rattle.tz_c.specs.declared.date_time_texts.ParsedData.{ParsedData}
+use Rattle.tz_c.specs.declared.date_times.ParsedData.{ParsedData}
 
 -- the local time and the offset that are written
 abbrev pub parsed_of : ParsedData → ParsedDateTime

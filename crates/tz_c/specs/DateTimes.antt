@@ -14,15 +14,16 @@ use Rattle.tz.specs.Meanings.{IsMeaning, IsMeaningFault}
 use Rattle.tz.specs.Plain.{IsUtcData, date_time_of}
 use Rattle.tz.specs.declared.datetime.disambiguation.Disambiguation.{Disambiguation}
 use Rattle.tz.specs.declared.datetime.disambiguation.Disambiguation.TheVariants.{Compatible, Earlier, Later, Reject}
-use Rattle.tz.specs.declared.datetime.date_time_data.UtcData.{UtcData}
-use Rattle.tz.specs.declared.datetime.date_time_data.DateTimeData.{DateTimeData}
+use Rattle.tz.specs.declared.datetime.date_time.UtcData.{UtcData}
+use Rattle.tz.specs.declared.datetime.date_time.DateTimeData.{DateTimeData}
 use Rattle.tz_c.specs.Codes.{code_of, no_date_time, unknown_choice}
 
 -- the data of a date time of UTC of which something holds
 abbrev pub IsUtcDataOf : (Fields → Type 0) → UtcData → Type 0
 IsUtcDataOf holds written = IsUtcData written × holds written.fields
 
--- why a duration leads to no date time: its nanoseconds are a second or more, or the total is that of none
+-- why a duration leads to no date time: its nanoseconds are a second or more, or the total is that
+-- of none
 abbrev pub IsMoveFault : ℤ → ℕ → TzError → Type 0
 IsMoveFault total nanoseconds e =
     ((e ≡ faults.DateTime field_faults.InvalidNanoseconds) × (1000000000 ≤ nanoseconds))
@@ -34,7 +35,11 @@ IsDateTimeDataOf holds written = IsDateTime (date_time_of written) × holds (dat
 
 -- the date time with these fields, which the type shows
 abbrev pub shown_by : Fields → LocalTimeType → DateTime
-shown_by fields t = record { fields = fields; local_time_type = t; unix_time = reading fields -ℤ t.ut_offset }
+shown_by fields t = record {
+  fields = fields;
+  local_time_type = t;
+  unix_time = reading fields -ℤ t.ut_offset;
+}
 
 -- the choice with a number
 abbrev pub choice_of : ℕ → Option Disambiguation

@@ -95,7 +95,8 @@ file_text files.InvalidStdWallUtLocal =
     codes "invalid couple of standard/wall and UT/local indicators"
 file_text files.RemainingDataV1 = codes "remaining data after the end of a TZif v1 data block"
 
--- what an error prints; of bytes that are no UTF-8 without their place, which a code does not have
+-- what an error prints; of bytes that are no UTF-8 without their position, which a code does not
+-- have
 abbrev pub error_text : TzError → List ℕ
 error_text (all.TzFile e) = codes "invalid TZ file: " ++ file_text e
 error_text (all.TzString e) = codes "invalid TZ string: " ++ string_text e

@@ -5,9 +5,10 @@ pub mod DateTimes
 pub mod ErrorTexts
 pub mod Files
 pub mod Layout
-pub mod Places
+pub mod Indexes
 pub mod Rules
 pub mod Settings
 pub mod Tables
 pub mod Texts
+pub mod ZoneOfData
 pub mod Zones

@@ -14,20 +14,24 @@ name_if has_name name = if has_name then Some name else None
 
 -- the local time type is written, or its first fault is named
 abbrev pub IsTypeAnswer : LocalTimeType → ℕ → LocalTimeType → Type 0
-IsTypeAnswer t code written = IsAnswerBy type_code code (IsLocalTimeType t × (written ≡ t)) (IsFirstTypeFault t)
+IsTypeAnswer t code written = IsAnswerBy type_code code (IsLocalTimeType t × (written ≡ t))
+    (IsFirstTypeFault t)
 
 -- the rule is written, or its first fault is named
 abbrev pub IsAlternateAnswer : AlternateTime → ℕ → AlternateTime → Type 0
-IsAlternateAnswer r code written = IsAnswerBy rule_code code (IsConsistentRule r × (written ≡ r)) (IsFirstRuleFault r)
+IsAlternateAnswer r code written = IsAnswerBy rule_code code (IsConsistentRule r × (written ≡ r))
+    (IsFirstRuleFault r)
 
 -- years that show a conflict are written, or there are none
 abbrev pub IsConflictAnswer : AlternateTime → ℕ → ConflictData → Type 0
 IsConflictAnswer r code written =
     IsAnswerOr code no_conflict
-    (IsInRuleRange r × IsConflict (start_of r) (end_of r) written.first_year written.second_year written.distance)
+    (IsInRuleRange r × IsConflict (start_of r) (end_of r) written.first_year written.second_year
+    written.distance)
     (¬ (IsInRuleRange r × IsInconsistent (start_of r) (end_of r)))
 
 -- the type of a rule at an instant is written, or it has none there, or there is no rule
 abbrev pub IsRuleTypeAnswer : Option TransitionRule → ℤ → ℕ → LocalTimeType → Type 0
 IsRuleTypeAnswer None u code written = code ≡ no_rule
-IsRuleTypeAnswer (Some rule) u code written = IsAnswerOr code 1 (IsRuleType rule u written) ((t : LocalTimeType) → ¬ IsRuleType rule u t)
+IsRuleTypeAnswer (Some rule) u code written =
+    IsAnswerOr code 1 (IsRuleType rule u written) ((t : LocalTimeType) → ¬ IsRuleType rule u t)

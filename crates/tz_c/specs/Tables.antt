@@ -4,7 +4,7 @@ use Rattle.tz_base.specs.declared.error.tz_error.TzError.{TzError}
 use Rattle.tz_base.specs.declared.error.tz_error.TzError.TheVariants.{Memory}
 use Rattle.tz_rule.specs.LocalTimeType.{LocalTimeType}
 use Rattle.tz_rule.specs.RuleData.{rule_given}
-use Rattle.tz_rule.specs.declared.timezone.rule_data.RuleData.{RuleData}
+use Rattle.tz_rule.specs.declared.timezone.transition_rule.RuleData.{RuleData}
 use Rattle.tz_zone.specs.Offsets.{AreEndOffsets}
 use Rattle.tz_zone.specs.Table.{LeapSecond, Transition, Zone, zone_with}
 use Rattle.tz_zone.specs.TzFile.{IsTzFile}
@@ -14,7 +14,8 @@ use Rattle.tz_c.specs.declared.zones.OffsetsData.{OffsetsData}
 
 -- the zone that is written
 abbrev pub zone_written : List Transition → List LocalTimeType → List LeapSecond → RuleData → Zone
-zone_written transitions types leap_seconds rule = zone_with transitions types leap_seconds (rule_given rule)
+zone_written transitions types leap_seconds rule =
+    zone_with transitions types leap_seconds (rule_given rule)
 
 -- two zones have tables of the same lengths
 pub record HaveSameLengths (a b : Zone) : Type 0 where

@@ -5,35 +5,37 @@ ghost use Rattle.tz_base.specs.Fields.{IsCivil, IsReading};
 ghost use Rattle.tz.specs.DateTimes.{IsClockFault, ShowsByClock};
 ghost use Rattle.tz_zone.specs.Changes.{IsTrueSegment, segment_of};
 ghost use Rattle.tz_zone.specs.Clock.{IsClock, IsLookupFault};
-ghost use Rattle.tz_zone.specs.ZoneOfData.{zone_of_data};
 ghost use Rattle.tz.specs.declared.datetime.disambiguation.Disambiguation.{Disambiguation};
 ghost use Rattle.tz_c.specs.Codes.{IsAnswer, IsAnswerOr, buffer_length};
 ghost use Rattle.tz_c.specs.Columns.{AreAnswers, AreInstantsBy, AreOfLength, IsDateTimeAt, IsDay, IsInDay, IsInstantAnswer, IsInstantAt, IsOffset, IsOffsetAt};
 ghost use Rattle.tz_c.specs.DateTimes.{IsDateTimeDataOf, choice_of};
+ghost use Rattle.tz_c.specs.ZoneOfData.{zone_of_data};
 
 use crate::codes::{
     BUFFER_LENGTH, INVALID_NANOSECONDS, NO_DATE_TIME, OK, OUT_OF_RANGE, UNKNOWN_CHOICE, code_of,
 };
 use crate::searches::choice_of;
+use crate::zone_data::ZoneData;
 use tz::datetime::Disambiguation;
 use tz::inner::{DateTimeData, Fields, find_one, local_reading};
 use tz_base::constants::{NANOSECONDS_PER_SECOND, SECONDS_PER_DAY};
 use tz_base::error::TzError;
 use tz_rule::timezone::LocalTimeType;
-use tz_zone::inner::ZoneData;
 use tz_zone::timezone::Segment;
 
-/// The segment of the zone's clock that holds an instant: the one before, if it holds the instant too.
+/// The segment of the zone's clock that holds an instant: the one before, if it holds the instant
+/// too.
 #[inline(always)]
 fn segment_around<'a>(zone: &ZoneData<'a>, before: Segment<'a>, unix_time: i64) -> Segment<'a>
     requires { IsTrueSegment (zone_of_data zone.now) (segment_of before) }
     ensures segment { IsTrueSegment (zone_of_data zone.now) (segment_of result) }
-    ensures within { ((segment_of result).from ≤ℤ unix_time) × (unix_time ≤ℤ (segment_of result).last) }
+    ensures within { ((segment_of result).from ≤ℤ unix_time)
+        × (unix_time ≤ℤ (segment_of result).last) }
 {
     if before.contains(unix_time) {
         before
     } else {
-        zone.segment_at(unix_time)
+        zone.lent().segment_at(unix_time)
     }
 }
 
@@ -45,13 +47,14 @@ fn type_in<'a>(
     unix_time: i64,
 ) -> Result<&'a LocalTimeType, TzError>
     requires segment { IsTrueSegment (zone_of_data zone.now) (segment_of segment.now) }
-    requires within { ((segment_of segment.now).from ≤ℤ unix_time) × (unix_time ≤ℤ (segment_of segment.now).last) }
+    requires within { ((segment_of segment.now).from ≤ℤ unix_time)
+        × (unix_time ≤ℤ (segment_of segment.now).last) }
     ensures ok { IfOk result (λ t. IsClock (zone_of_data zone.now) unix_time t.now) }
     ensures err { IfErr result (IsLookupFault (zone_of_data zone.now) unix_time) }
 {
     match segment.local_time_type() {
         Some(local_time_type) => Ok(local_time_type),
-        None => zone.find_local_time_type(unix_time),
+        None => zone.lent().find_local_time_type(unix_time),
     }
 }
 
@@ -59,8 +62,10 @@ fn type_in<'a>(
 #[inline(always)]
 fn offset_in(zone: &ZoneData<'_>, segment: &Segment<'_>, unix_time: i64, out: &mut i32) -> u32
     requires segment { IsTrueSegment (zone_of_data zone.now) (segment_of segment.now) }
-    requires within { ((segment_of segment.now).from ≤ℤ unix_time) × (unix_time ≤ℤ (segment_of segment.now).last) }
-    ensures answer { IsAnswer result (IsOffset (zone_of_data zone.now) unix_time out.new) (IsLookupFault (zone_of_data zone.now) unix_time) }
+    requires within { ((segment_of segment.now).from ≤ℤ unix_time)
+        × (unix_time ≤ℤ (segment_of segment.now).last) }
+    ensures answer { IsAnswer result (IsOffset (zone_of_data zone.now) unix_time out.new)
+        (IsLookupFault (zone_of_data zone.now) unix_time) }
     ensures kept { result ≢ 0 → out.new ≡ out.old }
 {
     match type_in(zone, segment, unix_time) {
@@ -146,7 +151,8 @@ fn fields_in(day: &Day, second_of_day: u32, nanoseconds: u32) -> Fields
     }
 }
 
-/// What the zone's clock shows at an instant of a segment. The day is that of the instant before, and then that of this one.
+/// What the zone's clock shows at an instant of a segment. The day is that of the instant before,
+/// and then that of this one.
 #[inline(always)]
 fn date_time_in(
     zone: &ZoneData<'_>,
@@ -157,10 +163,12 @@ fn date_time_in(
     out: &mut DateTimeData,
 ) -> u32
     requires segment { IsTrueSegment (zone_of_data zone.now) (segment_of segment.now) }
-    requires within { ((segment_of segment.now).from ≤ℤ unix_time) × (unix_time ≤ℤ (segment_of segment.now).last) }
+    requires within { ((segment_of segment.now).from ≤ℤ unix_time)
+        × (unix_time ≤ℤ (segment_of segment.now).last) }
     requires day { IsDay day.old }
     ensures day { IsDay day.new }
-    ensures answer { IsAnswer result (IsDateTimeDataOf (ShowsByClock (zone_of_data zone.now) unix_time nanoseconds) out.new)
+    ensures answer { IsAnswer result
+        (IsDateTimeDataOf (ShowsByClock (zone_of_data zone.now) unix_time nanoseconds) out.new)
         (IsClockFault (zone_of_data zone.now) unix_time nanoseconds) }
     ensures kept { result ≢ 0 → out.new ≡ out.old }
 {
@@ -190,12 +198,13 @@ fn instant_of(
     zone: &ZoneData<'_>,
     out: &mut i64,
 ) -> u32
-    ensures answer { IsInstantAnswer (zone_of_data zone.now) disambiguation fields.now result out.new }
+    ensures answer { IsInstantAnswer (zone_of_data zone.now) disambiguation fields.now result
+        out.new }
     ensures kept { result ≢ 0 → out.new ≡ out.old }
 {
-    match find_one(fields, disambiguation, zone) {
+    match find_one(fields, disambiguation, &zone.lent()) {
         Ok(Some(date_time)) => {
-            *out = date_time.unix_time();
+            *out = DateTimeData::of(&date_time).unix_time;
             OK
         }
         Ok(None) => NO_DATE_TIME,
@@ -212,7 +221,9 @@ pub extern "C" fn tz_column_offsets(
     codes: &mut [u32],
 ) -> u32
     ensures answer { IsAnswerOr result buffer_length
-        (AreOfLength (length unix_times.now) offsets.old codes.old × AreAnswers (IsOffsetAt (zone_of_data zone.now) unix_times.now) offsets.old offsets.new codes.new)
+        (AreOfLength (length unix_times.now) offsets.old codes.old
+        × AreAnswers (IsOffsetAt (zone_of_data zone.now) unix_times.now) offsets.old offsets.new
+        codes.new)
         (¬ AreOfLength (length unix_times.now) offsets.old codes.old) }
     ensures offsets_kept { result ≢ 0 → offsets.new ≡ offsets.old }
     ensures codes_kept { result ≢ 0 → codes.new ≡ codes.old }
@@ -220,7 +231,9 @@ pub extern "C" fn tz_column_offsets(
     if offsets.len() != unix_times.len() || codes.len() != unix_times.len() {
         return BUFFER_LENGTH;
     }
-    let mut segment = zone.segment_at(unix_times.first().copied().unwrap_or(0));
+    let mut segment = zone
+        .lent()
+        .segment_at(unix_times.first().copied().unwrap_or(0));
     for i in 0..unix_times.len() {
         segment = segment_around(zone, segment, unix_times[i]);
         codes[i] = offset_in(zone, &segment, unix_times[i], &mut offsets[i]);
@@ -238,9 +251,12 @@ pub extern "C" fn tz_column_date_times(
     codes: &mut [u32],
 ) -> u32
     ensures answer { IsAnswerOr result buffer_length
-        ((length nanoseconds.now ≡ length unix_times.now) × AreOfLength (length unix_times.now) date_times.old codes.old
-        × AreAnswers (IsDateTimeAt (zone_of_data zone.now) unix_times.now nanoseconds.now) date_times.old date_times.new codes.new)
-        (¬ ((length nanoseconds.now ≡ length unix_times.now) × AreOfLength (length unix_times.now) date_times.old codes.old)) }
+        ((length nanoseconds.now ≡ length unix_times.now)
+        × AreOfLength (length unix_times.now) date_times.old codes.old
+        × AreAnswers (IsDateTimeAt (zone_of_data zone.now) unix_times.now nanoseconds.now)
+        date_times.old date_times.new codes.new)
+        (¬ ((length nanoseconds.now ≡ length unix_times.now)
+        × AreOfLength (length unix_times.now) date_times.old codes.old)) }
     ensures date_times_kept { result ≢ 0 → date_times.new ≡ date_times.old }
     ensures codes_kept { result ≢ 0 → codes.new ≡ codes.old }
 {
@@ -250,7 +266,9 @@ pub extern "C" fn tz_column_date_times(
     {
         return BUFFER_LENGTH;
     }
-    let mut segment = zone.segment_at(unix_times.first().copied().unwrap_or(0));
+    let mut segment = zone
+        .lent()
+        .segment_at(unix_times.first().copied().unwrap_or(0));
     let mut day = day_of(0);
     for i in 0..unix_times.len() {
         segment = segment_around(zone, segment, unix_times[i]);
@@ -275,7 +293,9 @@ pub extern "C" fn tz_column_instants(
     unix_times: &mut [i64],
     codes: &mut [u32],
 ) -> u32
-    ensures answer { AreInstantsBy (zone_of_data zone.now) (choice_of choice) fields.now result unix_times.old unix_times.new codes.old codes.new }
+    ensures answer { AreInstantsBy (zone_of_data zone.now) (choice_of choice) fields.now result
+        unix_times.old
+        unix_times.new codes.old codes.new }
     ensures unix_times_kept { result ≢ 0 → unix_times.new ≡ unix_times.old }
     ensures codes_kept { result ≢ 0 → codes.new ≡ codes.old }
 {

@@ -1,14 +1,97 @@
-//! Rules.
+//! Local time types, rule days and alternate rules.
 
+ghost use Rattle.tz_base.specs.declared.error.timezone.TransitionRuleError.TheVariants as faults;
+ghost use Rattle.tz_rule.specs.declared.timezone.rule_day.RuleDay.TheVariants as days;
 ghost use Rattle.std.specs.Prelude.{◌≡◌, ◌≢◌, MatchOption};
+ghost use Rattle.tz_rule.specs.JulianDay.{IsJulianDay, IsZeroBasedDay};
+ghost use Rattle.tz_rule.specs.LocalTimeType.{type_of};
+ghost use Rattle.tz_rule.specs.MonthWeek.{IsMonthWeek, IsFirstMonthWeekFault, month_week};
+ghost use Rattle.tz_c.specs.Codes.{IsAnswerBy, rule_code};
+ghost use Rattle.tz_c.specs.Rules.{IsTypeAnswer, name_if, IsAlternateAnswer, IsConflictAnswer, IsRuleTypeAnswer};
 ghost use Rattle.tz_rule.specs.Alternate.{alternate_of};
 ghost use Rattle.tz_rule.specs.RuleRef.{rule_seen};
-ghost use Rattle.tz_zone.specs.ZoneSeen.{rule_of_lists};
-ghost use Rattle.tz_c.specs.Rules.{IsAlternateAnswer, IsConflictAnswer, IsRuleTypeAnswer};
+ghost use Rattle.tz_zone.specs.LentRules.{rule_of_lists};
 
-use crate::codes::{NO_CONFLICT, NO_RULE, OK, OUT_OF_RANGE, rule_code};
+use crate::codes::{NO_CONFLICT, NO_RULE, OK, OUT_OF_RANGE, rule_code, type_code};
 use tz_rule::inner::{AlternateData, DayData, RuleRef, find_local_time_type};
-use tz_rule::timezone::LocalTimeType;
+use tz_rule::timezone::{
+    Julian0WithLeap, Julian1WithoutLeap, LocalTimeType, MonthWeekDay, RuleDay,
+};
+
+/// The local time type with these parts, as `LocalTimeType::new` makes it.
+#[unsafe(no_mangle)]
+pub extern "C" fn tz_local_time_type_new(
+    ut_offset: i32,
+    is_dst: bool,
+    has_name: bool,
+    name: &[u8],
+    out: &mut LocalTimeType,
+) -> u32
+    ensures answer { IsTypeAnswer (type_of ut_offset is_dst (name_if has_name name.now)) result
+        out.new }
+    ensures kept { result ≢ 0 → out.new ≡ out.old }
+{
+    let name = if has_name { Some(name) } else { None };
+    match LocalTimeType::new(ut_offset, is_dst, name) {
+        Ok(local_time_type) => {
+            *out = local_time_type;
+            OK
+        }
+        Err(error) => type_code(error),
+    }
+}
+
+/// The day with this number of the days that are not February 29th, as `Julian1WithoutLeap::new`
+/// makes it.
+#[unsafe(no_mangle)]
+pub extern "C" fn tz_julian_1_new(julian_day_1: u16, out: &mut DayData) -> u32
+    ensures answer { IsAnswerBy rule_code result (IsJulianDay julian_day_1
+        × (out.new ≡ days.Julian1WithoutLeap julian_day_1))
+        (λ e. (e ≡ faults.InvalidRuleDayJulianDay) × ¬ IsJulianDay julian_day_1) }
+    ensures kept { result ≢ 0 → out.new ≡ out.old }
+{
+    match Julian1WithoutLeap::new(julian_day_1) {
+        Ok(day) => {
+            *out = DayData::of(&RuleDay::Julian1WithoutLeap(day));
+            OK
+        }
+        Err(error) => rule_code(error),
+    }
+}
+
+/// The day this many days after January 1st, as `Julian0WithLeap::new` makes it.
+#[unsafe(no_mangle)]
+pub extern "C" fn tz_julian_0_new(julian_day_0: u16, out: &mut DayData) -> u32
+    ensures answer { IsAnswerBy rule_code result (IsZeroBasedDay julian_day_0
+        × (out.new ≡ days.Julian0WithLeap julian_day_0))
+        (λ e. (e ≡ faults.InvalidRuleDayJulianDay) × ¬ IsZeroBasedDay julian_day_0) }
+    ensures kept { result ≢ 0 → out.new ≡ out.old }
+{
+    match Julian0WithLeap::new(julian_day_0) {
+        Ok(day) => {
+            *out = DayData::of(&RuleDay::Julian0WithLeap(day));
+            OK
+        }
+        Err(error) => rule_code(error),
+    }
+}
+
+/// The week day of a month, as `MonthWeekDay::new` makes it.
+#[unsafe(no_mangle)]
+pub extern "C" fn tz_month_week_day_new(month: u8, week: u8, week_day: u8, out: &mut DayData) -> u32
+    ensures answer { let d = month_week month week week_day in
+        IsAnswerBy rule_code result (IsMonthWeek d × (out.new ≡ days.MonthWeekDay d))
+        (IsFirstMonthWeekFault d) }
+    ensures kept { result ≢ 0 → out.new ≡ out.old }
+{
+    match MonthWeekDay::new(month, week, week_day) {
+        Ok(day) => {
+            *out = DayData::of(&RuleDay::MonthWeekDay(day));
+            OK
+        }
+        Err(error) => rule_code(error),
+    }
+}
 
 /// Years that show why parts make no rule.
 #[repr(C)]
@@ -30,7 +113,9 @@ pub extern "C" fn tz_alternate_new(
     dst_end_time: i32,
     out: &mut AlternateData,
 ) -> u32
-    ensures answer { IsAlternateAnswer (alternate_of std.now dst.now dst_start.now dst_start_time dst_end.now dst_end_time) result out.new }
+    ensures answer { IsAlternateAnswer
+        (alternate_of std.now dst.now dst_start.now dst_start_time dst_end.now
+        dst_end_time) result out.new }
     ensures kept { result ≢ 0 → out.new ≡ out.old }
 {
     match AlternateData::new(
@@ -60,7 +145,9 @@ pub extern "C" fn tz_alternate_conflict(
     dst_end_time: i32,
     out: &mut ConflictData,
 ) -> u32
-    ensures answer { IsConflictAnswer (alternate_of std.now dst.now dst_start.now dst_start_time dst_end.now dst_end_time) result out.new }
+    ensures answer { IsConflictAnswer
+        (alternate_of std.now dst.now dst_start.now dst_start_time dst_end.now
+        dst_end_time) result out.new }
     ensures kept { result ≢ 0 → out.new ≡ out.old }
 {
     match AlternateData::conflict(
@@ -89,7 +176,8 @@ pub(crate) fn rule_of_lists<'a>(
     fixed: &'a [LocalTimeType],
     alternate: &'a [AlternateData],
 ) -> Option<RuleRef<'a>>
-    ensures { MatchOption result (rule_of_lists fixed.now alternate.now ≡ None) (λ rule. rule_of_lists fixed.now alternate.now ≡ Some (rule_seen rule)) }
+    ensures { MatchOption result (rule_of_lists fixed.now alternate.now ≡ None)
+        (λ rule. rule_of_lists fixed.now alternate.now ≡ Some (rule_seen rule)) }
 {
     if !fixed.is_empty() {
         return Some(RuleRef::Fixed(&fixed[0]));
@@ -108,7 +196,8 @@ pub extern "C" fn tz_rule_type_at(
     unix_time: i64,
     out: &mut LocalTimeType,
 ) -> u32
-    ensures answer { IsRuleTypeAnswer (rule_of_lists fixed.now alternate.now) unix_time result out.new }
+    ensures answer { IsRuleTypeAnswer (rule_of_lists fixed.now alternate.now) unix_time result
+        out.new }
     ensures kept { result ≢ 0 → out.new ≡ out.old }
 {
     let Some(rule) = rule_of_lists(fixed, alternate) else {

@@ -2,18 +2,18 @@
 
 ghost use Rattle.std.specs.Prelude.{◌≡◌, ◌≢◌, List, length};
 ghost use Rattle.tz_zone.specs.Clock.{IsClock};
-ghost use Rattle.tz_zone.specs.ZoneOfData.{zone_of_data};
 ghost use Rattle.tz.specs.FindFaults.{IsFindFault};
 ghost use Rattle.tz.specs.Found.{IsFound};
 ghost use Rattle.tz.specs.Plain.{entries_from, placed};
 ghost use Rattle.tz.specs.declared.datetime.found.FoundDateTimeKind.{FoundDateTimeKind};
 ghost use Rattle.tz_c.specs.Codes.{IsAnswer};
 ghost use Rattle.tz_c.specs.DateTimes.{CanBeSearched, IsChoiceAnswer, choice_of};
+ghost use Rattle.tz_c.specs.ZoneOfData.{zone_of_data};
 
 use crate::codes::{NO_DATE_TIME, OK, UNKNOWN_CHOICE, code_of};
+use crate::zone_data::ZoneData;
 use tz::datetime::Disambiguation;
 use tz::inner::{DateTimeData, Fields, FoundData, find_into, find_one};
-use tz_zone::inner::ZoneData;
 
 /// What is found of the fields from one of the entries on, and how many entries there are.
 #[unsafe(no_mangle)]
@@ -25,14 +25,15 @@ pub extern "C" fn tz_find_n(
     count: &mut usize,
 ) -> u32
     ensures answer { IsAnswer result
-        ((found : List FoundDateTimeKind) × IsFound (IsClock (zone_of_data zone.now)) fields.now found
+        ((found : List FoundDateTimeKind)
+        × IsFound (IsClock (zone_of_data zone.now)) fields.now found
         × (count.new ≡ length found) × (slots.new ≡ placed slots.old (entries_from skip found)))
         (IsFindFault ⊥ (IsClock (zone_of_data zone.now)) fields.now) }
     ensures searched { result ≡ 0 → CanBeSearched (zone_of_data zone.now) fields.now }
     ensures slots_kept { result ≢ 0 → slots.new ≡ slots.old }
     ensures count_kept { result ≢ 0 → count.new ≡ count.old }
 {
-    match find_into(slots, skip, fields, zone) {
+    match find_into(slots, skip, fields, &zone.lent()) {
         Ok(found) => {
             *count = found;
             OK
@@ -62,13 +63,14 @@ pub extern "C" fn tz_find_one(
     zone: &ZoneData<'_>,
     out: &mut DateTimeData,
 ) -> u32
-    ensures answer { IsChoiceAnswer (zone_of_data zone.now) (choice_of choice) fields.now result out.new }
+    ensures answer { IsChoiceAnswer (zone_of_data zone.now) (choice_of choice) fields.now result
+        out.new }
     ensures kept { result ≢ 0 → out.new ≡ out.old }
 {
     let Some(disambiguation) = choice_of(choice) else {
         return UNKNOWN_CHOICE;
     };
-    match find_one(fields, disambiguation, zone) {
+    match find_one(fields, disambiguation, &zone.lent()) {
         Ok(Some(date_time)) => {
             *out = DateTimeData::of(&date_time);
             OK

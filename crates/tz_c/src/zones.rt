@@ -1,30 +1,35 @@
 //! Zones.
 
-ghost use Rattle.std.specs.Prelude.{◌≡◌, ◌≢◌, ◌≤ℤ◌};
+ghost use Rattle.tz_base.specs.declared.error.tz_error.TzError.TheVariants as faults;
+ghost use Rattle.std.specs.Prelude.{◌≡◌, ◌≢◌, ◌≤ℤ◌, ◌<◌, ◌++◌, ◌⊎◌, ℕ, slice_get, MatchOption};
 ghost use Rattle.tz_zone.specs.Changes.{IsTrueSegment, IsFollowing, IsPreceding, HasNoFollowing, HasNoPreceding};
 ghost use Rattle.tz_zone.specs.Clock.{IsClock, IsLookupFault};
 ghost use Rattle.tz_zone.specs.Offsets.{AreEndOffsets};
 ghost use Rattle.tz_zone.specs.TableChanges.{HasTableEnds};
 ghost use Rattle.tz_zone.specs.ValidZone.{IsValidZone, IsFirstZoneFault};
-ghost use Rattle.tz_zone.specs.ZoneOfData.{zone_of_data};
 ghost use Rattle.tz_c.specs.Codes.{IsAnswer, IsAnswerOr, no_change};
 ghost use Rattle.tz_c.specs.Zones.{HasZerosWithoutType, zone_of_parts, segment_written, change_written};
+ghost use Rattle.tz_c.specs.ZoneOfData.{zone_of_data};
+ghost use Rattle.tz_zone.specs.LentRules.{lent_rule};
+ghost use Rattle.tz_c.specs.Indexes.{IsClockIndex, IsFirstIndex, Stands, rule_types};
+ghost use Rattle.tz_zone.specs.LeapTime.{IsLeapTime, IsLeapTimeRefused, IsEffect, IsEffectRefused};
 
 use crate::codes::{NO_CHANGE, OK, code_of};
-use tz_rule::inner::AlternateData;
+use crate::zone_data::ZoneData;
+use tz_rule::inner::{AlternateData, RuleRef};
 use tz_rule::timezone::LocalTimeType;
-use tz_zone::inner::ZoneData;
+use tz_zone::inner::{self, RuleSource, effect, leap};
 use tz_zone::timezone::{Change, LeapSecond, Segment, Transition};
 
 /// Parts that may make a zone.
 #[repr(C)]
 #[derive(Clone, Copy)]
 pub struct PartsData<'a> {
-    transitions: &'a [Transition],
-    local_time_types: &'a [LocalTimeType],
-    leap_seconds: &'a [LeapSecond],
-    fixed: &'a [LocalTimeType],
-    alternate: &'a [AlternateData],
+    pub(crate) transitions: &'a [Transition],
+    pub(crate) local_time_types: &'a [LocalTimeType],
+    pub(crate) leap_seconds: &'a [LeapSecond],
+    pub(crate) fixed: &'a [LocalTimeType],
+    pub(crate) alternate: &'a [AlternateData],
 }
 
 /// The least and the greatest offset of a zone.
@@ -99,15 +104,15 @@ impl ChangeData {
 #[unsafe(no_mangle)]
 pub extern "C" fn tz_zone_check(parts: &PartsData<'_>, out: &mut OffsetsData) -> u32
     ensures answer { let z = zone_of_parts parts.now in
-        IsAnswer result (IsValidZone z × AreEndOffsets z out.new.least out.new.greatest) (IsFirstZoneFault z) }
+        IsAnswer result (IsValidZone z × AreEndOffsets z out.new.least out.new.greatest)
+        (IsFirstZoneFault z) }
     ensures kept { result ≢ 0 → out.new ≡ out.old }
 {
-    match ZoneData::new(
+    match inner::ZoneData::new(
         parts.transitions,
         parts.local_time_types,
         parts.leap_seconds,
-        parts.fixed,
-        parts.alternate,
+        RuleSource::Listed(parts.fixed, parts.alternate),
     ) {
         Ok(zone) => {
             let (least, greatest) = zone.offsets();
@@ -125,10 +130,11 @@ pub extern "C" fn tz_zone_type_at(
     unix_time: i64,
     out: &mut LocalTimeType,
 ) -> u32
-    ensures answer { IsAnswer result (IsClock (zone_of_data zone.now) unix_time out.new) (IsLookupFault (zone_of_data zone.now) unix_time) }
+    ensures answer { IsAnswer result (IsClock (zone_of_data zone.now) unix_time out.new)
+        (IsLookupFault (zone_of_data zone.now) unix_time) }
     ensures kept { result ≢ 0 → out.new ≡ out.old }
 {
-    match zone.find_local_time_type(unix_time) {
+    match zone.lent().find_local_time_type(unix_time) {
         Ok(local_time_type) => {
             *out = *local_time_type;
             OK
@@ -150,7 +156,7 @@ pub extern "C" fn tz_zone_segment_at(
     ensures ends { HasTableEnds (zone_of_data zone.now) out.new.from out.new.last }
     ensures zeros { HasZerosWithoutType out.new }
 {
-    *out = SegmentData::of(&zone.segment_at(unix_time));
+    *out = SegmentData::of(&zone.lent().segment_at(unix_time));
     OK
 }
 
@@ -161,10 +167,11 @@ pub extern "C" fn tz_zone_following(
     unix_time: i64,
     out: &mut ChangeData,
 ) -> u32
-    ensures answer { IsAnswerOr result no_change (IsFollowing (zone_of_data zone.now) unix_time (change_written out.new)) (HasNoFollowing (zone_of_data zone.now) unix_time) }
+    ensures answer { IsAnswerOr result no_change (IsFollowing (zone_of_data zone.now) unix_time
+        (change_written out.new)) (HasNoFollowing (zone_of_data zone.now) unix_time) }
     ensures kept { result ≢ 0 → out.new ≡ out.old }
 {
-    match zone.following(unix_time) {
+    match zone.lent().following(unix_time) {
         Some(change) => {
             *out = ChangeData::of(&change);
             OK
@@ -180,14 +187,106 @@ pub extern "C" fn tz_zone_preceding(
     unix_time: i64,
     out: &mut ChangeData,
 ) -> u32
-    ensures answer { IsAnswerOr result no_change (IsPreceding (zone_of_data zone.now) unix_time (change_written out.new)) (HasNoPreceding (zone_of_data zone.now) unix_time) }
+    ensures answer { IsAnswerOr result no_change (IsPreceding (zone_of_data zone.now) unix_time
+        (change_written out.new)) (HasNoPreceding (zone_of_data zone.now) unix_time) }
     ensures kept { result ≢ 0 → out.new ≡ out.old }
 {
-    match zone.preceding(unix_time) {
+    match zone.lent().preceding(unix_time) {
         Some(change) => {
             *out = ChangeData::of(&change);
             OK
         }
         None => NO_CHANGE,
+    }
+}
+
+/// The first index of a type in a list.
+fn index_in(types: &[LocalTimeType], local_time_type: &LocalTimeType) -> Option<usize>
+    ensures { MatchOption result ((k : ℕ) → slice_get types.now k ≢ Some local_time_type.now)
+        (IsFirstIndex types.now local_time_type.now) }
+{
+    for index in 0..types.len() {
+        if types[index] == *local_time_type {
+            return Some(index);
+        }
+    }
+    None
+}
+
+/// The first index of one of a rule's types among them.
+fn index_in_rule(rule: Option<RuleRef<'_>>, local_time_type: &LocalTimeType) -> usize
+    requires { Stands (rule_types (lent_rule rule)) local_time_type.now }
+    ensures index { IsFirstIndex (rule_types (lent_rule rule.entry)) local_time_type.now result }
+    ensures bound { result < 2 }
+{
+    match rule {
+        Some(RuleRef::Alternate(rule)) => { if rule.std() == local_time_type { 0 } else { 1 } }
+        _ => 0,
+    }
+}
+
+/// The first index of one of a zone's types among those of its list and of its rule.
+fn index_of(zone: &ZoneData<'_>, local_time_type: &LocalTimeType) -> usize
+    requires { Stands (zone_of_data zone.now).types local_time_type.now
+        ⊎ Stands (rule_types (zone_of_data zone.now).extra_rule) local_time_type.now }
+    ensures { let z = zone_of_data zone.now in
+        IsFirstIndex (z.types ++ rule_types z.extra_rule) local_time_type.now result }
+{
+    let types = zone.parts.local_time_types;
+    match index_in(types, local_time_type) {
+        Some(index) => index,
+        None => types.len() + index_in_rule(zone.lent().rule(), local_time_type),
+    }
+}
+
+/// The index of the type of a zone's clock at an instant.
+#[unsafe(no_mangle)]
+pub extern "C" fn tz_zone_place_at(zone: &ZoneData<'_>, unix_time: i64, out: &mut usize) -> u32
+    ensures answer { IsAnswer result (IsClockIndex (zone_of_data zone.now) unix_time out.new)
+        (IsLookupFault (zone_of_data zone.now) unix_time) }
+    ensures kept { result ≢ 0 → out.new ≡ out.old }
+{
+    match zone.lent().find_local_time_type(unix_time) {
+        Ok(local_time_type) => {
+            *out = index_of(zone, local_time_type);
+            OK
+        }
+        Err(error) => code_of(&error),
+    }
+}
+
+/// The leap time of an instant.
+#[unsafe(no_mangle)]
+pub extern "C" fn tz_zone_leap_time(zone: &ZoneData<'_>, unix_time: i64, out: &mut i64) -> u32
+    ensures answer { IsAnswer result
+        (IsLeapTime (zone_of_data zone.now).leap_seconds unix_time out.new)
+        (λ e. (e ≡ faults.OutOfRange) × IsLeapTimeRefused (zone_of_data zone.now).leap_seconds
+        unix_time) }
+    ensures kept { result ≢ 0 → out.new ≡ out.old }
+{
+    match leap(zone.parts.leap_seconds, unix_time) {
+        Ok(leap_time) => {
+            *out = leap_time;
+            OK
+        }
+        Err(error) => code_of(&error),
+    }
+}
+
+/// The least instant at which a leap time is reached.
+#[unsafe(no_mangle)]
+pub extern "C" fn tz_zone_effect(zone: &ZoneData<'_>, leap_time: i64, out: &mut i64) -> u32
+    ensures answer { IsAnswer result
+        (IsEffect (zone_of_data zone.now).leap_seconds leap_time out.new)
+        (λ e. (e ≡ faults.OutOfRange) × IsEffectRefused (zone_of_data zone.now).leap_seconds
+        leap_time) }
+    ensures kept { result ≢ 0 → out.new ≡ out.old }
+{
+    match effect(zone.parts.leap_seconds, leap_time) {
+        Ok(unix_time) => {
+            *out = unix_time;
+            OK
+        }
+        Err(error) => code_of(&error),
     }
 }

@@ -1,7 +1,9 @@
-//! Makes one call of the library many times: `tz_calls OPTION ARGUMENT CALL TIMES`, over the zone of `-o OFFSET`, `-f FILE` or `-z STRING`, for
-//! the words on standard input. bench/peers/README.md has the command line; its drivers over other libraries make the same calls.
+//! Makes one call of the library many times: `tz_calls OPTION ARGUMENT CALL TIMES`, over the zone
+//! of `-o OFFSET`, `-f FILE` or `-z STRING`, for the words on standard input. bench/peers/README.md
+//! has the command line; its drivers over other libraries make the same calls.
 //!
-//! It prints a sum of what the calls returned, so that none can be left out, and so that all programs are seen to have made the same calls.
+//! It prints a sum of what the calls returned, so that none can be left out, and so that all
+//! programs are seen to have made the same calls.
 #![tactic(auto)]
 
 use anyhow::{Context, Result, bail};
@@ -78,6 +80,16 @@ fn sum_of_locals(locals: &[Local]) -> u64 {
         ));
     }
     sum
+}
+
+/// The offset of the zone's clock at each instant.
+fn find_local_time_type(words: &[i64], zone: TimeZoneRef<'_>) -> Result<u64, TzError> {
+    let mut sum = 0u64;
+    for word in words {
+        let local_time_type = zone.find_local_time_type(*word)?;
+        sum = sum.wrapping_add(i64::from(local_time_type.ut_offset()).cast_unsigned());
+    }
+    Ok(sum)
 }
 
 fn from_timespec(words: &[i64], zone: TimeZoneRef<'_>) -> Result<u64, TzError> {
@@ -255,7 +267,8 @@ fn preceding(words: &[i64], zone: TimeZoneRef<'_>) -> u64 {
     sum
 }
 
-/// What a log's lines show: the zone is looked up only for an instant outside of the segment before.
+/// What a log's lines show: the zone is looked up only for an instant outside of the segment
+/// before.
 fn kept_segment(words: &[i64], zone: TimeZoneRef<'_>) -> Result<u64, TzError> {
     let mut sum = 0u64;
     let mut segment = zone.segment_at(0);
@@ -379,7 +392,8 @@ fn last_byte(path: &str) -> u8 {
     }
 }
 
-/// Makes a zone of a TZ string for each word, with a reader that fails for each path, and adds the last bytes of the paths.
+/// Makes a zone of a TZ string for each word, with a reader that fails for each path, and adds the
+/// last bytes of the paths.
 fn failing_reader(alloc: Global, words: &[i64], string: &str) -> Result<u64, Error> {
     let mut sum = 0u64;
     let seen = Cell::new(0u64);
@@ -460,6 +474,7 @@ fn sum_of(
     Ok(match call {
         "instant" => sum_of_instants(instants),
         "local" => sum_of_locals(locals),
+        "find_local_time_type" => find_local_time_type(instants, zone)?,
         "from_timespec" => from_timespec(instants, zone)?,
         "utc_from_timespec" => utc_from_timespec(instants)?,
         "utc_new" => utc_new(locals)?,
@@ -487,7 +502,8 @@ fn sum_of(
     })
 }
 
-/// The words on standard input, one a line, as instants and, for calls that take these, as local times.
+/// The words on standard input, one a line, as instants and, for calls that take these, as local
+/// times.
 fn read_words(rt: &HostRuntime, is_local: bool, zone: TimeZoneRef<'_>) -> Result<Words> {
     let alloc = rt.alloc();
     let text = io::read_to_string(alloc, rt.stdin())?;

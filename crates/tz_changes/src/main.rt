@@ -1,5 +1,6 @@
-//! Prints each change of a clock between two instants: `tz_changes FROM UNTIL SETTING ..`, over the zones of names, paths or TZ strings, forwards and
-//! then backwards. diff/changes compares the lines with what zdump prints.
+//! Prints each change of a clock between two instants: `tz_changes FROM UNTIL SETTING ..`, over the
+//! zones of names, paths or TZ strings, forwards and then backwards. diff/changes compares the
+//! lines with what zdump prints.
 #![tactic(auto)]
 
 use anyhow::{Context, Result, bail};

@@ -3,7 +3,8 @@
 use std::alloc::Global;
 use tz::{Change, DateTime, Segment, TimeZoneRef, TzError};
 
-/// When clocks of a zone are set next after an instant, and by how many seconds forward; where this is negative they are set back.
+/// When clocks of a zone are set next after an instant, and by how many seconds forward; where this
+/// is negative they are set back.
 pub fn next_change(zone: TimeZoneRef<'_>, now: i64) -> Result<Option<(DateTime, i64)>, TzError> {
     let Some(change) = zone.following(now) else {
         return Ok(None);
@@ -34,7 +35,8 @@ pub fn changes_around(
     Ok(changes)
 }
 
-/// What clocks show at a Unix time of a log. The segment is kept from entry to entry: where the time lies in it, its type is known.
+/// What clocks show at a Unix time of a log. The segment is kept from entry to entry: where the
+/// time lies in it, its type is known.
 pub fn show_entry<'a>(
     zone: TimeZoneRef<'a>,
     segment: &mut Segment<'a>,

@@ -6,7 +6,8 @@ use std::fs::Files;
 use tz::datetime::Disambiguation;
 use tz::{DateTime, ParsedDateTime, TimeZone, TimeZoneRef, UtcDateTime, timezone};
 
-/// What a local time such as `2026-03-29T02:30:00` is in UTC. An offset in the text decides, if there is one.
+/// What a local time such as `2026-03-29T02:30:00` is in UTC. An offset in the text decides, if
+/// there is one.
 pub fn utc_of(text: &str, zone: TimeZoneRef<'_>, choice: Disambiguation) -> Result<UtcDateTime> {
     let parsed = ParsedDateTime::parse(text.as_bytes())?;
     let local = parsed.local();

@@ -1,4 +1,5 @@
-//! Examples of the crates `tz` and `tz_query`, each a short function with a test. docs/GUIDE.md leads through them.
+//! Examples of the crates `tz` and `tz_query`, each a short function with a test. docs/GUIDE.md
+//! leads through them.
 #![tactic(auto)]
 
 #[cfg(test)]

@@ -5,8 +5,9 @@ use std::time::Duration;
 use tz::datetime::{Disambiguation, FoundDateTimeKind};
 use tz::{DateTime, TimeZoneRef, TzError, UtcDateTime};
 
-/// When a job of every day at a local time runs next after an instant. On the day on which clocks are set forward over that time it
-/// runs as much later as they are set forward; on the day on which they show it twice, once, the first time.
+/// When a job of every day at a local time runs next after an instant. On the day on which clocks
+/// are set forward over that time it runs as much later as they are set forward; on the day on
+/// which they show it twice, once, the first time.
 pub fn next_daily_run(
     zone: TimeZoneRef<'_>,
     hour: u8,
@@ -17,7 +18,7 @@ pub fn next_daily_run(
     let (year, month, month_day) = (today.year(), today.month(), today.month_day());
     let local = UtcDateTime::new(year, month, month_day, hour, minute, 0, 0)?;
     let day = Duration::from_secs(86_400);
-    // Yesterday's run is still to come where clocks have just been set forward over midnight.
+    // Yesterday's run is still to come where clocks have just been set over midnight.
     for local in [local.checked_sub(day), Some(local), local.checked_add(day)] {
         let local = local.ok_or(TzError::OutOfRange)?;
         match DateTime::from_local(local, Disambiguation::Compatible, zone)? {
@@ -28,8 +29,9 @@ pub fn next_daily_run(
     Ok(None)
 }
 
-/// When an alarm rings that is set to a local time: at the first instant at which clocks show it or are set forward over it. At a jump it
-/// rings as many nanoseconds late as the local time has. It does not ring if the zone has no clock then.
+/// When an alarm rings that is set to a local time: at the first instant at which clocks show it or
+/// are set forward over it. At a jump it rings as many nanoseconds late as the local time has. It
+/// does not ring if the zone has no clock then.
 pub fn alarm(
     alloc: Global,
     zone: TimeZoneRef<'_>,
@@ -49,14 +51,15 @@ pub fn alarm(
     })
 }
 
-/// How many instants and jumps a local time has, found without memory: 1 nearly always, 2 where clocks show it twice.
+/// How many instants and jumps a local time has, found without memory: 1 nearly always, 2 where
+/// clocks show it twice.
 pub fn count_meanings(zone: TimeZoneRef<'_>, local: UtcDateTime) -> Result<usize, TzError> {
     let mut slots = [None; 2];
     Ok(DateTime::find_n_local(&mut slots, local, zone)?.count())
 }
 
-/// A meeting at one local time each week. Weeks are added to the local time, not to the first instant: an hour may be lost or
-/// gained between.
+/// A meeting at one local time each week. Weeks are added to the local time, not to the first
+/// instant: an hour may be lost or gained between.
 pub fn weekly_meetings(
     alloc: Global,
     zone: TimeZoneRef<'_>,
@@ -103,7 +106,8 @@ pub fn noon(
     DateTime::find_one(year, month, month_day, 12, 0, 0, 0, choice, zone)
 }
 
-/// The Unix time of a local time that is in no gap and no fold, found without allocating: one slot is enough, as all entries are counted.
+/// The Unix time of a local time that is in no gap and no fold, found without allocating: one slot
+/// is enough, as all entries are counted.
 pub fn plain_instant(zone: TimeZoneRef<'_>, local: UtcDateTime) -> Result<Option<i64>, TzError> {
     let mut slots = [None; 1];
     let found = DateTime::find_n_local(&mut slots, local, zone)?;

@@ -107,9 +107,11 @@ fn the_machine_s_zone_is_found_or_its_file_is_missing(rt: HostRuntime) {
     assert!(rt; matches!(&found, Ok(_) | Err(Error::Io(_))));
 }
 
-/// Alarms of central Europe ring at their instants, and their local times have as many meanings as they should.
+/// Alarms of central Europe ring at their instants, and their local times have as many meanings as
+/// they should.
 fn expect_alarms(rt: &impl Abort, alloc: Global, zone: TimeZoneRef<'_>) -> Result<(), TzError> {
-    // Month, day, hour and minute in 2000, with the instant at which the alarm rings, and the number of meanings.
+    // Month, day, hour and minute in 2000, with the instant at which the alarm rings, and the
+    // number of meanings.
     static ALARMS: [((u8, u8, u8, u8), i64, usize); 3] = [
         // Clocks go forward from 2:00 to 3:00.
         ((3, 26, 2, 30), SPRING_2000, 1),
@@ -134,7 +136,8 @@ fn alarms_ring_in_gaps_and_folds(rt: HostRuntime) -> Result<(), Fail> {
     Ok(())
 }
 
-/// Jobs of every day at half past these hours run next after these instants as the text after ` | ` says.
+/// Jobs of every day at half past these hours run next after these instants as the text after ` | `
+/// says.
 fn expect_runs(
     rt: &impl Abort,
     alloc: Global,
@@ -152,8 +155,8 @@ fn expect_runs(
 
 #[test]
 fn daily_jobs_run_once_in_gaps_and_folds(rt: HostRuntime) -> Result<(), Fail> {
-    // Clocks go forward from 2:00 to 3:00 in the night after March 7th, and back from 2:00 to 1:00 in the night after October 31st, so that 1:30 is
-    // shown twice.
+    // Clocks go forward from 2:00 to 3:00 in the night after March 7th, and back from 2:00 to 1:00
+    // in the night after October 31st, so that 1:30 is shown twice.
     static NEW_YORK: &str = "\
 2 2026-03-07T17:00:00Z | 2026-03-08T03:30:00.000000000-04:00
 2 2026-03-08T07:29:59Z | 2026-03-08T03:30:00.000000000-04:00
@@ -162,7 +165,8 @@ fn daily_jobs_run_once_in_gaps_and_folds(rt: HostRuntime) -> Result<(), Fail> {
 1 2026-11-01T05:30:00Z | 2026-11-02T01:30:00.000000000-05:00
 1 2026-11-01T06:30:00Z | 2026-11-02T01:30:00.000000000-05:00
 ";
-    // Clocks go forward from 23:00 to midnight, as in Scoresbysund, and midnight itself is the first instant.
+    // Clocks go forward from 23:00 to midnight, as in Scoresbysund, and midnight itself is the
+    // first instant.
     static OVER_MIDNIGHT: &str = "\
 23 2025-03-30T01:00:00Z | 2025-03-30T00:30:00.000000000-01:00
 23 2025-03-30T01:30:00Z | 2025-03-30T23:30:00.000000000-01:00
@@ -214,7 +218,8 @@ fn meetings_keep_their_local_time(rt: HostRuntime) -> Result<(), Fail> {
     Ok(())
 }
 
-/// After these instants clocks of central Europe next show the text after ` | `, set forward by its seconds.
+/// After these instants clocks of central Europe next show the text after ` | `, set forward by its
+/// seconds.
 fn expect_next_changes(rt: &impl Abort, alloc: Global, zone: TimeZoneRef<'_>) -> Result<(), Fail> {
     static CHANGES: &str = "\
 2000-03-26T00:59:59Z | 2000-03-26T03:00:00.000000000+02:00 3600
@@ -308,7 +313,8 @@ fn rules_are_made_of_parts(rt: HostRuntime) -> Result<(), Fail> {
     Ok(())
 }
 
-/// Noon and midnight of a day in central Europe have one instant, and local times in a fold and in a gap have not.
+/// Noon and midnight of a day in central Europe have one instant, and local times in a fold and in
+/// a gap have not.
 fn expect_one_instant(rt: &impl Abort, zone: TimeZoneRef<'_>) -> Result<(), TzError> {
     const NOON: i64 = utc!(2000-07-01 10:00:00);
     const MIDNIGHT: i64 = utc!(2000-06-30 22:00:00);
@@ -316,7 +322,8 @@ fn expect_one_instant(rt: &impl Abort, zone: TimeZoneRef<'_>) -> Result<(), TzEr
     expect_eq(rt, &shown.map(|noon| noon.unix_time()), &Some(NOON));
     let midnight = UtcDateTime::new(2000, 7, 1, 0, 0, 0, 0)?;
     expect_eq(rt, &plain_instant(zone, midnight)?, &Some(MIDNIGHT));
-    // Clocks go back from 3:00 to 2:00, and so show 2:30 twice; they go forward from 2:00 to 3:00, and skip it.
+    // Clocks go back from 3:00 to 2:00, and so show 2:30 twice; they go forward from 2:00 to 3:00,
+    // and skip it.
     let twice = UtcDateTime::new(2000, 10, 29, 2, 30, 0, 0)?;
     expect_eq(rt, &plain_instant(zone, twice)?, &None);
     let skipped = UtcDateTime::new(2000, 3, 26, 2, 30, 0, 0)?;
@@ -353,7 +360,8 @@ fn choice_of(word: &str) -> Disambiguation {
     }
 }
 
-/// The text of a row, by the choice after it, is converted to the date time of UTC after ` | `, or this is wrong with it.
+/// The text of a row, by the choice after it, is converted to the date time of UTC after ` | `, or
+/// this is wrong with it.
 fn expect_converted(
     rt: &impl Abort,
     alloc: Global,
@@ -371,7 +379,8 @@ fn expect_converted(
 
 #[test]
 fn local_times_are_converted(rt: HostRuntime) -> Result<(), Fail> {
-    // Clocks go forward from 2:00 to 3:00 on March 29th, and back from 3:00 to 2:00 on October 25th.
+    // Clocks go forward from 2:00 to 3:00 on March 29th, and back from 3:00 to 2:00 on October
+    // 25th.
     static ROWS: &str = "\
 2026-03-29T02:30:00 Compatible | 2026-03-29T01:30:00.000000000Z
 2026-03-29T02:30:00 Earlier | 2026-03-29T00:30:00.000000000Z

@@ -18,7 +18,8 @@ pub fn zone_of_name<R: Files>(rt: &R, alloc: Global, name: &str) -> Result<TimeZ
     TimeZone::named(alloc, reader, name)
 }
 
-/// The zone of a name such as `Europe/Paris`, or of a TZ string such as `CET-1CEST,M3.5.0,M10.5.0/3`.
+/// The zone of a name such as `Europe/Paris`, or of a TZ string such as
+/// `CET-1CEST,M3.5.0,M10.5.0/3`.
 pub fn zone_of_setting<R: Files>(rt: &R, alloc: Global, setting: &str) -> Result<TimeZone, Error> {
     let reader = |path: &str| timezone::read_file(rt, alloc, path);
     TimeZone::from_posix_tz(alloc, reader, setting)
@@ -30,7 +31,8 @@ pub fn local_time(alloc: Global, file: &[u8], unix_time: i64) -> Result<DateTime
     DateTime::from_timespec(unix_time, 0, zone.as_ref())
 }
 
-/// What clocks showed in a zone that is made of its parts, without memory: an hour ahead of UTC until the year 2000, and two from then on.
+/// What clocks showed in a zone that is made of its parts, without memory: an hour ahead of UTC
+/// until the year 2000, and two from then on.
 pub fn moved_ahead_in_2000(unix_time: i64) -> Result<DateTime, TzError> {
     let before = LocalTimeType::new(3600, false, Some(b"EARLY"))?;
     let after = LocalTimeType::new(7200, false, Some(b"LATE"))?;
@@ -46,7 +48,8 @@ pub fn summer_time() -> Result<LocalTimeType, TzError> {
     Ok(LocalTimeType::new(7200, true, Some(b"CEST"))?)
 }
 
-/// The rule of New York: daylight saving time from 2:00 on the second Sunday of March to 2:00 on the first Sunday of November.
+/// The rule of New York: daylight saving time from 2:00 on the second Sunday of March to 2:00 on
+/// the first Sunday of November.
 pub fn new_york_rule() -> Result<AlternateTime, TzError> {
     let std = LocalTimeType::new(-18_000, false, Some(b"EST"))?;
     let dst = LocalTimeType::new(-14_400, true, Some(b"EDT"))?;

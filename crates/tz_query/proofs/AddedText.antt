@@ -11,7 +11,7 @@ use Rattle.tz_query.specs.Pages.{EndsLine}
 use Rattle.tz_query.specs.declared.query.lines.Query.{Query}
 use Rattle.tz_query.specs.declared.query.lines.Query.TheVariants.{Time}
 use Rattle.tz_query.specs.declared.query.output.Output.{Output}
-use Rattle.tz_query.specs.declared.query.type_suffixes.Suffixes.{Suffixes}
+use Rattle.tz_query.specs.declared.query.answers.Suffixes.{Suffixes}
 use Rattle.tz_query.specs.declared.query.answers.Answers.{Answers}
 
 module _ {A : Type 0} {a b : Answers A} {x : List ℕ} where
@@ -36,8 +36,10 @@ module _ {A : Type 0} {a b : Answers A} {x : List ℕ} where
   }
 
 -- a line without its end, and what follows on the same line
-pub adds_joined : {A : Type 0} {a b c : Answers A} {y : List ℕ} (x page : List ℕ) → Adds a b (x ++ line_feed ∷ []) → EndsLine b.output.page →
-    ((text : List ℕ) (byte : ℕ) → b.output.page ≡ text ++ byte ∷ [] → page ≡ text) → Adds (record b { output = record b.output { page = page } }) c y → Adds a c (x ++ y)
+pub adds_joined : {A : Type 0} {a b c : Answers A} {y : List ℕ} (x page : List ℕ) → Adds a b (x ++ line_feed ∷ [])
+    → EndsLine b.output.page →
+    ((text : List ℕ) (byte : ℕ) → b.output.page ≡ text ++ byte ∷ [] → page ≡ text)
+    → Adds (record b { output = record b.output { page = page } }) c y → Adds a c (x ++ y)
 adds_joined {A} {a} {b} {c} x page first (text, ends) popped second =
     let items = b.output.answers.items in
     let end = line_feed ∷ [] in
@@ -45,20 +47,35 @@ adds_joined {A} {a} {b} {c} x page first (text, ends) popped second =
     let joined : Adds a (record b { output = record b.output { page = page } }) x = record {
       zone_is = first.zone_is;
       sound = first.sound;
-      text_is = append_cancel_right (items ++ page) (written a.output ++ x) end (append_assoc items page end ∙ ap (λ bytes. items ++ bytes) whole ∙ first.text_is ∙ sym (append_assoc (written a.output) x end));
+      text_is = append_cancel_right (items ++ page) (written a.output ++ x) end (append_assoc items page end
+          ∙ ap (λ bytes. items ++ bytes) whole ∙ first.text_is ∙ sym (append_assoc (written a.output) x end));
     } in
     adds_both joined second
 
 -- the answer of a query, where it alone is written
-pub answer_written : {A T E : Type 0} (query : Query) (a : Answers A) (output : Output A) (r : Result T E) (answer : List (List ℕ)) → IsQueryAnswer (zone_of a.zone) query answer →
-    IfOk r (λ _. written output ≡ written a.output ++ ended answer) → IfOk r (λ _. IsAnswered query a (record a { output = output }))
-answer_written query a output r answer is text = IfOk-weaker r _ _ (λ done items. (answer, is, record { zone_is = refl; sound = λ s. s; text_is = items })) text
+pub answer_written : {A T E : Type 0} (query : Query) (a : Answers A) (output : Output A) (r : Result T E)
+    (answer : List (List ℕ)) → IsQueryAnswer (zone_of a.zone) query answer →
+    IfOk r (λ _. written output ≡ written a.output ++ ended answer)
+    → IfOk r (λ _. IsAnswered query a (record a { output = output }))
+answer_written query a output r answer is text =
+    IfOk-weaker r _ _ (λ done items. (answer, is, record { zone_is = refl; sound = λ s. s; text_is = items })) text
 
-pub time_answer_written : {A T E : Type 0} (u : ℤ) (n : ℕ) (a : Answers A) (suffixes : Suffixes) (output : Output A) (r : Result T E) →
-    IfOk r (λ _. (text : List ℕ) × IsTimeAnswer (zone_of a.zone) u n text × (written output ≡ written a.output ++ ended (text ∷ []))) → IfOk r (λ _. IsAnswered (Time u n) a (record a { suffixes = suffixes; output = output }))
-time_answer_written u n a suffixes output r text = IfOk-weaker r _ _ (λ done (line, is, items). (line ∷ [], (line, is, refl), record { zone_is = refl; sound = λ s. s; text_is = items })) text
+pub time_answer_written : {A T E : Type 0} (u : ℤ) (n : ℕ) (a : Answers A) (suffixes : Suffixes) (output : Output A)
+    (r : Result T E) →
+    IfOk r (λ _. (text : List ℕ) × IsTimeAnswer (zone_of a.zone) u n text
+    × (written output ≡ written a.output ++ ended (text ∷ [])))
+    → IfOk r (λ _. IsAnswered (Time u n) a (record a { suffixes = suffixes; output = output }))
+time_answer_written u n a suffixes output r text =
+    IfOk-weaker r _ _ (λ done (line, is, items). (
+      line ∷ [],
+      (line, is, refl),
+      record { zone_is = refl; sound = λ s. s; text_is = items },
+    )) text
 
 -- the answer of a query after nothing was written
-pub answered_after : {A T E : Type 0} {a b : Answers A} (c : Answers A) (query : Query) (r : Result T E) → Leaves a b → IfOk r (λ _. IsAnswered query b c) → IfOk r (λ _. IsAnswered query a c)
+pub answered_after : {A T E : Type 0} {a b : Answers A} (c : Answers A) (query : Query) (r : Result T E) → Leaves a b
+    → IfOk r (λ _. IsAnswered query b c) → IfOk r (λ _. IsAnswered query a c)
 answered_after c query r kept answered =
-    IfOk-weaker r _ _ (λ done (answer, is, adds). (answer, subst (λ zone. IsQueryAnswer (zone_of zone) query answer) kept.zone_is is, then_adds kept adds)) answered
+    IfOk-weaker r _ _ (λ done (answer, is, adds).
+    (answer, subst (λ zone. IsQueryAnswer (zone_of zone) query answer) kept.zone_is is, then_adds kept adds))
+    answered

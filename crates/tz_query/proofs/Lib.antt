@@ -10,5 +10,4 @@ pub mod NineDigits
 pub mod OtherNanoseconds
 pub mod PageLines
 pub mod EntryLines
-pub mod LineMeanings
 pub mod MeetingAnswers

@@ -16,7 +16,8 @@ all_are_digits (d ∷ ds) all =
     ap (λ b. cond b (1 + digits_len ds) 0) (is_digit d range.0 range.1).0 ∙ omega (arith, all_are_digits ds all.1)
 
 -- the number that nine digits are read as
-pub value_of_nine : (n : ℕ) → n < 1000000000 → (nine : List ℕ) → nine ≡ nine_digits n → (end value : ℕ) → end ≡ 0 + digits_len (drop 0 nine) →
+pub value_of_nine : (n : ℕ) → n < 1000000000 → (nine : List ℕ) → nine ≡ nine_digits n → (end value : ℕ)
+    → end ≡ 0 + digits_len (drop 0 nine) →
     value ≡ (0 * 10 ^ (end - 0) + digits_value 10 (slice_range nine 0 end)) % 2 ^ 64 → value ≡ n
 unfolding nine_digits
 value_of_nine n few nine is end value end_is value_is =
@@ -34,5 +35,7 @@ unfolding nine_digits
 value_of_nine_digits n few nine is = ap (digits_value 10) is ∙ last_digits_value 9 n few
 
 -- so they are the digits of their value, which is below 10^9
-pub nine_of_their_value : (n : ℕ) → n < 1000000000 → (nine : List ℕ) → nine ≡ nine_digits n → (digits_value 10 nine < 1000000000) × (nine ≡ nine_digits (digits_value 10 nine))
-nine_of_their_value n few nine is = let value = value_of_nine_digits n few nine is in (omega (arith, value, few), is ∙ ap nine_digits (sym value))
+pub nine_of_their_value : (n : ℕ) → n < 1000000000 → (nine : List ℕ) → nine ≡ nine_digits n
+    → (digits_value 10 nine < 1000000000) × (nine ≡ nine_digits (digits_value 10 nine))
+nine_of_their_value n few nine is = let value = value_of_nine_digits n few nine is in
+    (omega (arith, value, few), is ∙ ap nine_digits (sym value))

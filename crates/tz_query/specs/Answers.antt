@@ -43,8 +43,10 @@ IsFaultText _ text = ⊥
 -- the answer line of an instant: the date time that the clock shows, or why it shows none
 abbrev pub IsTimeAnswer : Zone → ℤ → ℕ → List ℕ → Type 0
 IsTimeAnswer z u n answer =
-    ((d : DateTime) × ShowsByClock z u n d × IsReading (reading d.fields) × (answer ≡ moment_text d))
-    ⊎ ((e : TzError) × (text : List ℕ) × IsClockFault z u n e × IsFaultText e text × (answer ≡ codes "E " ++ text))
+    ((d : DateTime) × ShowsByClock z u n d × IsReading (reading d.fields)
+    × (answer ≡ moment_text d))
+    ⊎ ((e : TzError) × (text : List ℕ) × IsClockFault z u n e × IsFaultText e text
+    × (answer ≡ codes "E " ++ text))
 
 -- what is found: a date time that the clock shows, or a jump of the clock, before it and after it
 abbrev pub entry_text : FoundDateTimeKind → List ℕ
@@ -55,14 +57,17 @@ entry_text (Skipped before after) = codes "S " ++ (moment_text before ++ space �
 abbrev pub found_lines : List FoundDateTimeKind → List (List ℕ)
 found_lines found = (codes "F " ++ decimal (length found)) ∷ map entry_text found
 
--- the answer lines of fields: all that a search finds of the zone's clock, if each entry can be made, or why it is refused, which an allocation
--- failure does not answer
+-- the answer lines of fields: all that a search finds of the zone's clock, if each entry can be
+-- made, or why it is refused, which an allocation failure does not answer
 abbrev pub IsSearchAnswer : Zone → Fields → List (List ℕ) → Type 0
 IsSearchAnswer z f answer =
-    ((found : List FoundDateTimeKind) × IsValid f × IsFound (IsClock z) f found × EachCanBeMade (IsClock z) f × (answer ≡ found_lines found))
-    ⊎ ((e : TzError) × (text : List ℕ) × IsFindFault ⊥ (IsClock z) f e × IsFaultText e text × (answer ≡ (codes "E " ++ text) ∷ []))
+    ((found : List FoundDateTimeKind) × IsValid f × IsFound (IsClock z) f found
+    × EachCanBeMade (IsClock z) f × (answer ≡ found_lines found))
+    ⊎ ((e : TzError) × (text : List ℕ) × IsFindFault ⊥ (IsClock z) f e × IsFaultText e text
+    × (answer ≡ (codes "E " ++ text) ∷ []))
 
--- the answer lines of a week of a meeting: those of its fields, or that no year of 32 bits has its day
+-- the answer lines of a week of a meeting: those of its fields, or that no year of 32 bits has its
+-- day
 abbrev pub IsWeekAnswer : Zone → Fields → ℕ → List (List ℕ) → Type 0
 IsWeekAnswer z f weeks answer =
     ((g : Fields) × IsInYears (day_after f weeks) × IsWeekOf f weeks g × IsSearchAnswer z g answer)
@@ -71,17 +76,21 @@ IsWeekAnswer z f weeks answer =
 -- the answer lines of weeks in turn, the first of them this many weeks after the fields
 abbrev pub AreWeekAnswers : Zone → Fields → ℕ → List (List (List ℕ)) → Type 0
 AreWeekAnswers z f weeks [] = ⊤
-AreWeekAnswers z f weeks (answer ∷ answers) = IsWeekAnswer z f weeks answer × AreWeekAnswers z f (weeks + 1) answers
+AreWeekAnswers z f weeks (answer ∷ answers) = IsWeekAnswer z f weeks answer
+    × AreWeekAnswers z f (weeks + 1) answers
 
 -- how many weeks, and the lines of each
 abbrev pub meeting_lines : List (List (List ℕ)) → List (List ℕ)
-meeting_lines weeks = (codes "W " ++ decimal (length weeks)) ∷ flat_map (λ (week : List (List ℕ)). week) weeks
+meeting_lines weeks = (codes "W " ++ decimal (length weeks))
+    ∷ flat_map (λ (week : List (List ℕ)). week) weeks
 
 -- the answer lines of a meeting: those of this many weeks, or the first fault of its fields
 abbrev pub IsMeetingAnswer : Zone → ℕ → Fields → List (List ℕ) → Type 0
 IsMeetingAnswer z count f answer =
-    (IsValid f × (weeks : List (List (List ℕ))) × (length weeks ≡ count) × AreWeekAnswers z f 0 weeks × (answer ≡ meeting_lines weeks))
-    ⊎ ((fault : DateTimeError) × IsFirstFault f fault × (answer ≡ (codes "E " ++ field_fault_text fault) ∷ []))
+    (IsValid f × (weeks : List (List (List ℕ))) × (length weeks ≡ count)
+    × AreWeekAnswers z f 0 weeks × (answer ≡ meeting_lines weeks))
+    ⊎ ((fault : DateTimeError) × IsFirstFault f fault
+    × (answer ≡ (codes "E " ++ field_fault_text fault) ∷ []))
 
 -- the answer lines of a query
 abbrev pub IsQueryAnswer : Zone → Query → List (List ℕ) → Type 0
@@ -105,13 +114,16 @@ pub record AreAnswers (z : Zone) (queries bytes : List ℕ) : Type 0 where
 
 -- the file denotes a zone, and the bytes answer the query bytes over it
 abbrev pub AreFileAnswers : List ℕ → List ℕ → List ℕ → Type 0
-AreFileAnswers file queries bytes = (zone : Zone) × IsTzFile file zone × AreAnswers zone queries bytes
+AreFileAnswers file queries bytes = (zone : Zone) × IsTzFile file zone
+    × AreAnswers zone queries bytes
 
 -- a line that announces no lines after it: neither `F` nor `W` begins it, with a space
 abbrev pub IsSingle : List ℕ → Type 0
-IsSingle text = ((rest : List ℕ) → text ≢ codes "F " ++ rest) × ((rest : List ℕ) → text ≢ codes "W " ++ rest)
+IsSingle text = ((rest : List ℕ) → text ≢ codes "F " ++ rest)
+    × ((rest : List ℕ) → text ≢ codes "W " ++ rest)
 
--- a group of the answer lines of an instant or of a search: such a line, or `F` with the number of the lines after it
+-- a group of the answer lines of an instant or of a search: such a line, or `F` with the number of
+-- the lines after it
 abbrev pub IsSearchGroup : List (List ℕ) → Type 0
 IsSearchGroup answer =
     ((text : List ℕ) × IsSingle text × (answer ≡ text ∷ []))
@@ -119,4 +131,5 @@ IsSearchGroup answer =
 
 -- a group of answer lines: that, or `W` with the number of such groups after it
 abbrev pub IsGroup : List (List ℕ) → Type 0
-IsGroup answer = IsSearchGroup answer ⊎ ((weeks : List (List (List ℕ))) × All IsSearchGroup weeks × (answer ≡ meeting_lines weeks))
+IsGroup answer = IsSearchGroup answer
+    ⊎ ((weeks : List (List (List ℕ))) × All IsSearchGroup weeks × (answer ≡ meeting_lines weeks))

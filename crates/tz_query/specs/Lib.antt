@@ -9,6 +9,5 @@ pub mod MeetingDates
 pub mod Answers
 pub mod Streams
 pub mod Outputs
-pub mod LineMeanings
 pub mod Program
 pub mod Failures

@@ -18,7 +18,8 @@ ended (line ∷ lines) = line ++ line_feed ∷ ended lines
 abbrev pub IsCut : List ℕ → List (List ℕ) → Type 0
 IsCut bytes lines =
     (bytes ≡ ended lines)
-    ⊎ ((front : List (List ℕ)) × (last : List ℕ) × (lines ≡ front ++ last ∷ []) × (last ≢ []) × (bytes ≡ ended front ++ last))
+    ⊎ ((front : List (List ℕ)) × (last : List ℕ) × (lines ≡ front ++ last ∷ []) × (last ≢ [])
+    × (bytes ≡ ended front ++ last))
 
 -- the lines of the bytes
 pub record AreLines (bytes : List ℕ) (lines : List (List ℕ)) : Type 0 where

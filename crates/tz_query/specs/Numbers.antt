@@ -14,7 +14,8 @@ space = 32
 abbrev pub IsNumber : List ℕ → ℤ → Type 0
 IsNumber text n =
     (digits : List ℕ) × IsNumeral 10 digits
-    × (((text ≡ digits) × (n ≡ pos (digits_value 10 digits))) ⊎ ((text ≡ hyphen ∷ digits) × (n ≡ neg_ℤ (pos (digits_value 10 digits)))))
+    × (((text ≡ digits) × (n ≡ pos (digits_value 10 digits)))
+    ⊎ ((text ≡ hyphen ∷ digits) × (n ≡ neg_ℤ (pos (digits_value 10 digits)))))
 
 -- the number at the front of the bytes, and what follows it
 pub record IsNumberFront (bytes : List ℕ) (n : ℤ) (rest : List ℕ) : Type 0 where
@@ -27,7 +28,8 @@ pub record IsNumberFront (bytes : List ℕ) (n : ℤ) (rest : List ℕ) : Type 0
 abbrev pub AreNumbers : List ℕ → List ℤ → Type 0
 AreNumbers text [] = text ≡ []
 AreNumbers text (n ∷ numbers) =
-    (number : List ℕ) × (rest : List ℕ) × (text ≡ space ∷ (number ++ rest)) × IsNumber number n × AreNumbers rest numbers
+    (number : List ℕ) × (rest : List ℕ) × (text ≡ space ∷ (number ++ rest)) × IsNumber number n
+    × AreNumbers rest numbers
 
 -- the number after one space at the front of the bytes, and what follows it
 abbrev pub IsPartFront : List ℕ → ℤ → List ℕ → Type 0
@@ -36,4 +38,5 @@ IsPartFront bytes n rest = (after : List ℕ) × (bytes ≡ space ∷ after) × 
 -- such numbers in turn, and what follows the last of them
 abbrev pub ArePartsFront : List ℕ → List ℤ → List ℕ → Type 0
 ArePartsFront bytes [] rest = bytes ≡ rest
-ArePartsFront bytes (n ∷ numbers) rest = (after : List ℕ) × IsPartFront bytes n after × ArePartsFront after numbers rest
+ArePartsFront bytes (n ∷ numbers) rest = (after : List ℕ) × IsPartFront bytes n after
+    × ArePartsFront after numbers rest

@@ -14,7 +14,8 @@ written output = output.answers.items ++ output.page
 
 -- throughout the kept segment the clock has the type whose suffix is kept
 abbrev pub IsSound : {A : Type 0} → Answers A → Type 0
-IsSound a = (u : ℤ) → a.segment.from ≤ℤ u → u ≤ℤ a.segment.last → IsClock (zone_of a.zone) u a.segment.suffix.local_time_type
+IsSound a = (u : ℤ) → a.segment.from ≤ℤ u → u ≤ℤ a.segment.last
+    → IsClock (zone_of a.zone) u a.segment.suffix.local_time_type
 
 -- what was written is the same, and so is the zone
 pub record Leaves {A : Type 0} (before after : Answers A) : Type 0 where
@@ -30,4 +31,5 @@ pub record Adds {A : Type 0} (before after : Answers A) (text : List ℕ) : Type
 
 -- the answer lines of a query stand after what was written
 abbrev pub IsAnswered : {A : Type 0} → Query → Answers A → Answers A → Type 0
-IsAnswered query before after = (answer : List (List ℕ)) × IsQueryAnswer (zone_of before.zone) query answer × Adds before after (ended answer)
+IsAnswered query before after = (answer : List (List ℕ))
+    × IsQueryAnswer (zone_of before.zone) query answer × Adds before after (ended answer)

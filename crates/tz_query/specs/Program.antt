@@ -24,15 +24,18 @@ fixed_zone offset = zone_with [] (plain_type offset ∷ []) [] None
 
 -- the directories in which the files of a TZ string are
 abbrev pub usual_directories : List (List ℕ)
-usual_directories = codes "/usr/share/zoneinfo" ∷ codes "/share/zoneinfo" ∷ codes "/etc/zoneinfo" ∷ []
+usual_directories = codes "/usr/share/zoneinfo" ∷ codes "/share/zoneinfo" ∷ codes "/etc/zoneinfo"
+    ∷ []
 
 -- a number means the fixed zone with this offset
 abbrev pub IsZoneOfOffset : List ℕ → Zone → Type 0
-IsZoneOfOffset number zone = (offset : ℤ) × IsNumber number offset × FitsSigned w32 offset × (zone ≡ fixed_zone offset)
+IsZoneOfOffset number zone = (offset : ℤ) × IsNumber number offset × FitsSigned w32 offset
+    × (zone ≡ fixed_zone offset)
 
 -- a path means the zone denoted by bytes that the reader can return for it
 abbrev pub IsZoneOfFile : (List ℕ → Read → Type 0) → List ℕ → Zone → Type 0
-IsZoneOfFile reads path zone = (bytes : Vec ℕ Global) × reads path (Ok bytes) × IsTzFile (vec_items bytes) zone
+IsZoneOfFile reads path zone = (bytes : Vec ℕ Global) × reads path (Ok bytes)
+    × IsTzFile (vec_items bytes) zone
 
 -- a TZ string means the zone that the settings can return for it
 abbrev pub IsZoneOfText : (List ℕ → Read → Type 0) → List ℕ → Zone → Type 0
@@ -47,19 +50,23 @@ IsZoneOfOption reads option value zone =
 
 -- two arguments name a zone, an option and its value
 abbrev pub NamesZone : (List ℕ → Read → Type 0) → List (List ℕ) → Zone → Type 0
-NamesZone reads arguments zone = (option : List ℕ) × (value : List ℕ) × (arguments ≡ option ∷ value ∷ []) × IsZoneOfOption reads option value zone
+NamesZone reads arguments zone = (option : List ℕ) × (value : List ℕ)
+    × (arguments ≡ option ∷ value ∷ []) × IsZoneOfOption reads option value zone
 
 -- a number is an offset of 32 bits that no local time type has
 abbrev pub IsRefusedOffset : List ℕ → Type 0
-IsRefusedOffset number = (offset : ℤ) × IsNumber number offset × FitsSigned w32 offset × ¬ IsOffset offset
+IsRefusedOffset number = (offset : ℤ) × IsNumber number offset × FitsSigned w32 offset
+    × ¬ IsOffset offset
 
 -- the reader can answer bytes for a path that denote no zone
 abbrev pub IsRefusedFile : (List ℕ → Read → Type 0) → List ℕ → Type 0
-IsRefusedFile reads path = (bytes : Vec ℕ Global) × reads path (Ok bytes) × ((zone : Zone) → ¬ IsTzFile (vec_items bytes) zone)
+IsRefusedFile reads path = (bytes : Vec ℕ Global) × reads path (Ok bytes)
+    × ((zone : Zone) → ¬ IsTzFile (vec_items bytes) zone)
 
 -- the settings can answer a TZ string with a fault of the string, or of the file that it names
 abbrev pub IsRefusedText : (List ℕ → Read → Type 0) → List ℕ → Type 0
-IsRefusedText reads text = (e : TzError) × IsSettingsAnswer reads usual_directories text (Err (Tz e)) × (e ≢ NoMemory alloc_error)
+IsRefusedText reads text = (e : TzError)
+    × IsSettingsAnswer reads usual_directories text (Err (Tz e)) × (e ≢ NoMemory alloc_error)
 
 -- the value of an option makes no zone
 abbrev pub IsRefusedOption : (List ℕ → Read → Type 0) → List ℕ → List ℕ → Type 0
@@ -70,16 +77,21 @@ IsRefusedOption reads option value =
 
 -- two arguments are an option and a value that makes no zone
 abbrev pub NamesRefusedZone : (List ℕ → Read → Type 0) → List (List ℕ) → Type 0
-NamesRefusedZone reads arguments = (option : List ℕ) × (value : List ℕ) × (arguments ≡ option ∷ value ∷ []) × IsRefusedOption reads option value
+NamesRefusedZone reads arguments = (option : List ℕ) × (value : List ℕ)
+    × (arguments ≡ option ∷ value ∷ []) × IsRefusedOption reads option value
 
--- the input is read to its end, and its answers over the zone of the arguments are written, where the bytes of input and output are known
-pub record AnswersInput (reads : List ℕ → Read → Type 0) (arguments : List (List ℕ)) (unread left written now : Option (List ℕ)) : Type 0 where
+-- the input is read to its end, and its answers over the zone of the arguments are written, where
+-- the bytes of input and output are known
+pub record AnswersInput (reads : List ℕ → Read → Type 0) (arguments : List (List ℕ))
+    (unread left written now : Option (List ℕ)) : Type 0 where
   pub zone : Zone
   pub asked : NamesZone reads arguments zone
   pub wrote : WritesAnswers zone unread left written now
 
--- the input is read to its end, and a front of its answers over the zone of the arguments is written
-pub record BeginsAnswers (reads : List ℕ → Read → Type 0) (arguments : List (List ℕ)) (unread left written now : Option (List ℕ)) : Type 0 where
+-- the input is read to its end, and a front of its answers over the zone of the arguments is
+-- written
+pub record BeginsAnswers (reads : List ℕ → Read → Type 0) (arguments : List (List ℕ))
+    (unread left written now : Option (List ℕ)) : Type 0 where
   pub zone : Zone
   pub asked : NamesZone reads arguments zone
   pub wrote : WritesFrontOfAnswers zone unread left written now

@@ -30,7 +30,8 @@ pub record IsTimeLine (line : List ℕ) (u : ℤ) (n : ℕ) : Type 0 where
 
 -- the fields in their order
 abbrev pub numbers_of : Fields → List ℤ
-numbers_of f = f.year ∷ pos f.month ∷ pos f.month_day ∷ pos f.hour ∷ pos f.minute ∷ pos f.second ∷ pos f.nanoseconds ∷ []
+numbers_of f = f.year ∷ pos f.month ∷ pos f.month_day ∷ pos f.hour ∷ pos f.minute ∷ pos f.second
+    ∷ pos f.nanoseconds ∷ []
 
 -- a year of 32 bits, nanoseconds of 32 bits, and five numbers of 8 bits between them
 pub record AreFieldsOfBits (f : Fields) : Type 0 where
@@ -47,7 +48,8 @@ pub record IsSearchLine (line : List ℕ) (f : Fields) : Type 0 where
   pub line_is : IsLineOf search_letter (numbers_of f) line
   pub fields_fit : AreFieldsOfBits f
 
--- `W c y mo d h mi s n` asks for the date times of fields in a number of weeks of 8 bits, in the first week of these fields
+-- `W c y mo d h mi s n` asks for the date times of fields in a number of weeks of 8 bits, in the
+-- first week of these fields
 pub record IsMeetingLine (line : List ℕ) (count : ℕ) (f : Fields) : Type 0 where
   pub line_is : IsLineOf meeting_letter (pos count ∷ numbers_of f) line
   pub count_fits : count < 2 ^ 8

@@ -1,4 +1,5 @@
-//! Comparisons of tests. The proof of a test walks through each `assert_eq!` where it is written out, and through a call of these much faster.
+//! Comparisons of tests. The proof of a test walks through each `assert_eq!` where it is written
+//! out, and through a call of these much faster.
 
 use std::alloc::{AllocError, Global};
 use std::fmt::Debug;
@@ -30,7 +31,8 @@ fn push_line(text: &mut String, line: &str) -> Result<(), AllocError> {
     text.push('\n')
 }
 
-/// Adds the line before ` | ` of a row to the queries, and those after it, which `, ` separates, to the answers.
+/// Adds the line before ` | ` of a row to the queries, and those after it, which `, ` separates, to
+/// the answers.
 fn push_row(queries: &mut String, answers: &mut String, row: &str) -> Result<(), Fail> {
     let (query, lines) = row.split_once(" | ").ok_or("no ` | ` in a row")?;
     push_line(queries, query)?;

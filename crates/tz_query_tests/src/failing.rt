@@ -25,7 +25,8 @@ impl Read for FailingReader<'_> {
     }
 }
 
-/// Takes bytes into memory, up to a piece at each of as many calls as it is allowed; each later call fails.
+/// Takes bytes into memory, up to a piece at each of as many calls as it is allowed; each later
+/// call fails.
 #[derive(Drop)]
 pub struct FailingWriter {
     pub bytes: Vec<u8>,

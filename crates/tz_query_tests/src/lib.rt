@@ -6,8 +6,6 @@ mod expect;
 #[cfg(test)]
 mod failing;
 #[cfg(test)]
-mod fast;
-#[cfg(test)]
 mod growths;
 #[cfg(test)]
 mod large;

@@ -1,24 +1,11 @@
 //! Query lines, by rows and by another program's answers.
 
-use crate::expect::{expect_eq, expect_rows, expect_rows_by_parts};
-use crate::growths::{expect_answers_or_refusal, expect_growths};
-use std::alloc::{Allocator, Global};
+use crate::expect::{expect_eq, expect_rows};
+use std::alloc::Global;
 use std::process::Abort;
 use std::test::Fail;
-use tz::{TimeZone, TimeZoneRef, TzError};
+use tz::{TimeZone, TimeZoneRef};
 use tz_query::query::answer;
-use tz_samples::refusing::Refusing;
-use tz_samples::zones::ZoneRow;
-
-/// The answers over a fixed zone.
-fn answered<A: Allocator + Copy>(
-    alloc: A,
-    ut_offset: i32,
-    queries: &[u8],
-) -> Result<Vec<u8, A>, TzError> {
-    let zone = TimeZone::fixed(alloc, ut_offset)?;
-    answer(alloc, zone.as_ref(), queries)
-}
 
 /// The queries have these answers over UTC.
 fn expect_answered(
@@ -27,12 +14,13 @@ fn expect_answered(
     queries: &[u8],
     answers: &[u8],
 ) -> Result<(), Fail> {
-    let found = answered(alloc, 0, queries)?;
+    let found = answer(alloc, TimeZoneRef::utc(), queries)?;
     expect_eq(rt, &found.as_slice(), &answers);
     Ok(())
 }
 
-/// Offsets, and under each of them lines at the limits of their numbers, of years and of offsets, with what tz-rs answers to them.
+/// Offsets, and under each of them lines at the limits of their numbers, of years and of offsets,
+/// with what tz-rs answers to them.
 static LIMITS: &str = "\
 0
 T 0 0 | 1970-01-01T00:00:00.000000000Z -
@@ -130,23 +118,13 @@ fn answers_at_the_limits_as_tz_rs(rt: HostRuntime) -> Result<(), Fail> {
     Ok(())
 }
 
-#[test]
-fn refuses_by_name(rt: HostRuntime) -> Result<(), Fail> {
-    static ROWS: &str = "\
-T 0 | E Line
-T 0 1000000000 | E InvalidNanoseconds
-F 2001 300 1 0 0 0 0 | E Line
-T 9223372036854775807 1000000000 | E InvalidNanoseconds
-T 9223372036854775807 999999999 | E OutOfRange
-";
-    expect_rows(&rt, rt.alloc(), TimeZoneRef::utc(), ROWS)
-}
-
-/// Lines that are none of the grammar.
-static NO_LINES: [&str; 19] = [
-    "T +1 5", "T 1  5", "T 1 5 ", "", " T 1 5", "T  1 5", "T 1 5 6", "T 1", "T", "t 1 5",
-    "T 1 5\r", "T -1 --5", "T - 5", "T 1 -", "T 1\t5", "T1 5", "T 1e3 5", "T 1 5x", "W 1 5",
-];
+/// Lines that are none of the grammar, with `;` between them.
+static NO_LINES: &str = "\
+    T +1 5;T 1  5;T 1 5 ;; T 1 5;T  1 5;T 1 5 6;T 1;T;t 1 5;T 1 5\r;T -1 --5;T - 5;T 1 -;T 1\t5;\
+    T1 5;T 1e3 5;T 1 5x;W 1 5;F;f 2000 1 1 0 0 0 0;F2000 1 1 0 0 0 0;F  2000 1 1 0 0 0 0;\
+    F 2000 1 1 0 0 0;F 2000 1 1 0 0 0 0 0;F 2000 1 1 0 0 0 0 ;F 2000 1 1 0 0 0  0;\
+    F +2000 1 1 0 0 0 0;F 2000 256 1 0 0 0 0;F 2000 -1 1 0 0 0 0;F 2000 1 1 0 0 0 -1;\
+    F 2000 1 1 0 0 0 4294967296;F 2000 1 1 0 0 0 0x;F 2000-1-1 0 0 0 0; F 2000 1 1 0 0 0 0";
 
 /// The line with an LF is refused.
 fn expect_no_line(rt: &impl Abort, alloc: Global, line: &str) -> Result<(), Fail> {
@@ -158,7 +136,7 @@ fn expect_no_line(rt: &impl Abort, alloc: Global, line: &str) -> Result<(), Fail
 
 #[test]
 fn reads_only_the_grammar(rt: HostRuntime) -> Result<(), Fail> {
-    for line in &NO_LINES {
+    for line in NO_LINES.split(';') {
         expect_no_line(&rt, rt.alloc(), line)?;
     }
     expect_answered(
@@ -167,26 +145,6 @@ fn reads_only_the_grammar(rt: HostRuntime) -> Result<(), Fail> {
         b"T 1 \xFF\n\xC3\x28\nT 1 5\0\nT 00000000000000000000001 5",
         b"E Line\nE Line\nE Line\n1970-01-01T00:00:01.000000005Z -\n",
     )
-}
-
-/// Queries with lines that end in an LF and in none, and their answers.
-static CUT_LINES: [(&[u8], &[u8]); 5] = [
-    (b"", b""),
-    (b"\n", b"E Line\n"),
-    (b"T 0 0", b"1970-01-01T00:00:00.000000000Z -\n"),
-    (b"T 0 0\n", b"1970-01-01T00:00:00.000000000Z -\n"),
-    (
-        b"\n\nT 0 0\n\nT 0 0",
-        b"E Line\nE Line\n1970-01-01T00:00:00.000000000Z -\nE Line\n1970-01-01T00:00:00.000000000Z -\n",
-    ),
-];
-
-#[test]
-fn cuts_lines_at_each_lf(rt: HostRuntime) -> Result<(), Fail> {
-    for (queries, answers) in &CUT_LINES {
-        expect_answered(&rt, rt.alloc(), queries, answers)?;
-    }
-    Ok(())
 }
 
 #[test]
@@ -202,32 +160,4 @@ fn reads_a_million_digits(rt: HostRuntime) -> Result<(), Fail> {
         zeros.as_slice(),
         b"1970-01-01T00:00:07.000000005Z -\nE Line\n",
     )
-}
-
-#[test]
-fn prints_the_name_of_the_type(rt: HostRuntime) -> Result<(), Fail> {
-    static ZONE: ZoneRow = ZoneRow {
-        types: &[(20_700, false, Some(b"+0545"))],
-        transitions: &[],
-        leap_seconds: &[],
-        extra_rule: None,
-    };
-    let row = "T 0 0 | 1970-01-01T05:45:00.000000000+05:45 +0545";
-    expect_rows_by_parts(&rt, rt.alloc(), &ZONE, row)
-}
-
-#[test]
-fn refused_memory_changes_no_answer(rt: HostRuntime) -> Result<(), Fail> {
-    let queries = b"T 946684800 123456789\nT 0\n";
-    let answers = b"1999-12-31T23:00:00.123456789-01:00 -\nE Line\n";
-    let mut growths = 0u64;
-    for left in 0..20u64 {
-        let heap = Refusing::new(rt.alloc(), left);
-        let given = answered(&heap, -3600, queries);
-        if expect_answers_or_refusal(&rt, left, &heap, given, answers) {
-            growths = left + 1;
-        }
-    }
-    expect_growths(&rt, growths, 2..20);
-    Ok(())
 }

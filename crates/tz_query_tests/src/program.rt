@@ -8,21 +8,8 @@ use std::process::Abort;
 use std::test::Fail;
 use tz::error::ReadFault;
 use tz_query::query::tool;
-use tz_samples::files::UTC_V1;
+use tz_samples::files::{UTC_V1, UTC_V4};
 use tz_samples::refusing::Refusing;
-
-/// A file of version 4 with one type, UTC, and leap seconds from 2016 on that expire.
-const UTC_V4: &[u8] = b"TZif4\
-    \0\0\0\0\0\0\0\0\0\0\0\0\0\0\0\
-    \0\0\0\0\0\0\0\0\0\0\0\0\0\0\0\0\0\0\0\x01\0\0\0\x04\
-    \0\0\0\0\0\0UTC\0\
-    TZif4\
-    \0\0\0\0\0\0\0\0\0\0\0\0\0\0\0\
-    \0\0\0\0\0\0\0\0\0\0\0\x02\0\0\0\0\0\0\0\x01\0\0\0\x04\
-    \0\0\0\0\0\0UTC\0\
-    \0\0\0\0\x58\x68\x46\x9a\0\0\0\x1b\
-    \0\0\0\0\x65\x53\xf1\0\0\0\0\x1b\
-    \n\n";
 
 /// A file of version 1 with one type, UTC, and a leap second before 1970.
 const EARLY_LEAP_SECOND: &[u8] = b"TZif\0\
@@ -31,7 +18,8 @@ const EARLY_LEAP_SECOND: &[u8] = b"TZif\0\
     \0\0\0\0\0\0UTC\0\
     \xff\xff\xff\xff\0\0\0\x01";
 
-/// The files: three of UTC, one without bytes, one cut short, one whose parts make no zone, and one for which there is no memory.
+/// The files: three of UTC, one without bytes, one cut short, one whose parts make no zone, and one
+/// for which there is no memory.
 fn file_at(alloc: Global, path: &str) -> Result<Vec<u8>, ReadFault> {
     static FILES: [(&str, &[u8]); 6] = [
         ("/utc", UTC_V1),
@@ -82,7 +70,8 @@ fn expect_outcome(
     Ok(())
 }
 
-/// Asked for the epoch with the option and the value before ` | ` in a row, the program does what stands after it, between two texts.
+/// Asked for the epoch with the option and the value before ` | ` in a row, the program does what
+/// stands after it, between two texts.
 fn expect_row_around(
     rt: &impl Abort,
     alloc: Global,
@@ -213,8 +202,8 @@ fn failing_after(alloc: Global, calls: u8) -> FailingWriter {
     }
 }
 
-/// What the program does with an input that fails after a number of reads, an output that fails after one of writes, and an error
-/// output that fails after one.
+/// What the program does with an input that fails after a number of reads, an output that fails
+/// after one of writes, and an error output that fails after one.
 fn outcome_of_failing(
     alloc: Global,
     arguments: &[&str],
@@ -233,7 +222,8 @@ fn outcome_of_failing(
     written(alloc, status, &out.bytes, &err.bytes)
 }
 
-/// The program does this with streams that fail after these numbers of reads, writes and complaints.
+/// The program does this with streams that fail after these numbers of reads, writes and
+/// complaints.
 fn expect_outcome_of_failing(
     rt: &impl Abort,
     alloc: Global,
@@ -289,33 +279,8 @@ fn the_zone_is_made_before_a_byte_is_read(rt: HostRuntime) -> Result<(), Fail> {
     Ok(())
 }
 
-/// Of nine reads and nine writes that would succeed, how many the program leaves.
-fn calls_left(alloc: Global, arguments: &[&str]) -> (u8, u8) {
-    let mut input = FailingReader {
-        bytes: b"T 0 0\n",
-        calls: 9,
-    };
-    let mut out = failing_after(alloc, 9);
-    let mut err = Vec::new(alloc);
-    let reader = |path: &str| file_at(alloc, path);
-    tool(alloc, arguments, reader, &mut input, &mut out, &mut err);
-    (input.calls, out.calls)
-}
-
-#[test]
-fn without_a_zone_it_neither_reads_nor_writes(rt: HostRuntime) -> Result<(), Fail> {
-    for (option, value, _) in &FAULTS_OF_ZONES {
-        let left = calls_left(rt.alloc(), &[option, value]);
-        expect_eq_at(&rt, value, &left, &(9, 9));
-    }
-    for arguments in &BAD_ARGUMENTS {
-        let left = calls_left(rt.alloc(), arguments);
-        expect_eq_at(&rt, arguments, &left, &(9, 9));
-    }
-    Ok(())
-}
-
-/// What the program does where a number of growths are granted and each later one is refused, and how many were refused.
+/// What the program does where a number of growths are granted and each later one is refused, and
+/// how many were refused.
 fn outcome_of_refusing(
     alloc: Global,
     arguments: &[&str],
@@ -330,7 +295,8 @@ fn outcome_of_refusing(
     Ok((written(alloc, status, &out, &err)?, heap.refused()))
 }
 
-/// How many growths the program needs to give the answer, where with each lesser number it has no memory; none if it says otherwise.
+/// How many growths the program needs to give the answer, where with each lesser number it has no
+/// memory; none if it says otherwise.
 fn needed(alloc: Global, arguments: &[&str], answer: &str) -> Result<Option<u64>, Fail> {
     for left in 0..40u64 {
         let (found, refused) = outcome_of_refusing(alloc, arguments, left)?;

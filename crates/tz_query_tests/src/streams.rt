@@ -30,7 +30,8 @@ fn name(answer: &Result<(), RunFault>) -> &'static str {
     }
 }
 
-/// What a run returns with a reader and a writer that fail after a number of calls, and what the writer holds then, after `|`.
+/// What a run returns with a reader and a writer that fail after a number of calls, and what the
+/// writer holds then, after `|`.
 fn outcome(alloc: Global, reads: u8, writes: u8, piece: usize) -> Result<String, Fail> {
     let zone = central_europe_zone(alloc)?;
     let mut input = FailingReader {
@@ -111,8 +112,8 @@ fn a_failed_write_leaves_a_front(rt: HostRuntime) -> Result<(), Fail> {
     Ok(())
 }
 
-/// A run where a number of growths are granted and each later one is refused writes all answers, or is out of memory and writes none. Says
-/// whether a growth was refused.
+/// A run where a number of growths are granted and each later one is refused writes all answers, or
+/// is out of memory and writes none. Says whether a growth was refused.
 fn run_is_refused(rt: &impl Abort, alloc: Global, zone: TimeZoneRef<'_>, left: u64) -> bool {
     let heap = Refusing::new(alloc, left);
     let mut input = QUERIES;

@@ -1,8 +1,8 @@
 pub mod Weeks
-pub mod DayPlaces
-pub mod WeekPlaces
+pub mod DaysInLists
+pub mod DaysOfWeeks
 pub mod NameWords
-pub mod YearPlaces
+pub mod DaysOfYears
 pub mod YearKinds
 pub mod YearlyInstants
 pub mod YearsApart

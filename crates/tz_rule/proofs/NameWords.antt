@@ -41,13 +41,16 @@ AreBytes-first (suc n) bytes name i = AreBytes-name (take (suc n) bytes) (name (
 AreBytes-kept : (d : Designation) → IsKept d → AreBytes (d.bytes ++ d.len ∷ [])
 AreBytes-kept d k =
     let name = take d.len d.bytes in
-    let seven : AreBytes d.bytes = subst AreBytes (sym k.is_padded) (AreBytes-append name (replicate (7 - length name) 0) (AreBytes-first d.len d.bytes k.is_name) (AreBytes-zeros (7 - length name))) in
+    let seven : AreBytes d.bytes = subst AreBytes (sym k.is_padded)
+    (AreBytes-append name (replicate (7 - length name) 0) (AreBytes-first d.len d.bytes k.is_name)
+    (AreBytes-zeros (7 - length name))) in
     AreBytes-append d.bytes (d.len ∷ []) seven (AreBytes-single d.len (omega (arith, k.short)))
 
 -- the bytes are the digits of the word
 digits : (d : Designation) → IsKept d → to_le_bytes w64 (word_of d) ≡ d.bytes ++ d.len ∷ []
 digits d k =
-    le_bytes_8 (d.bytes ++ d.len ∷ []) (word_of d) (omega (arith, length-append d.bytes (d.len ∷ []), seven_bytes d k)) (AreBytes-kept d k) refl
+    le_bytes_8 (d.bytes ++ d.len ∷ []) (word_of d) (omega (arith, length-append d.bytes (d.len ∷ []), seven_bytes d k))
+    (AreBytes-kept d k) refl
 
 first_seven : (xs : List ℕ) (x : ℕ) → length xs ≡ 7 → take 7 (xs ++ x ∷ []) ≡ xs
 first_seven xs x l = ap (λ n. take n (xs ++ x ∷ [])) (sym l) ∙ take-append_seam xs (x ∷ [])
@@ -57,7 +60,11 @@ eighth xs x l = ap (λ n. get_or (xs ++ x ∷ []) n 0) (sym l) ∙ get_or-append
 
 pub same_word : (d e : Designation) → IsKept d → IsKept e → word_of d ≡ word_of e → d ≡ e
 same_word d e k l p =
-    let eight : d.bytes ++ d.len ∷ [] ≡ e.bytes ++ e.len ∷ [] = sym (digits d k) ∙ ap (to_le_bytes w64) p ∙ digits e l in
-    let bytes : d.bytes ≡ e.bytes = sym (first_seven d.bytes d.len (seven_bytes d k)) ∙ ap (take 7) eight ∙ first_seven e.bytes e.len (seven_bytes e l) in
-    let len : d.len ≡ e.len = sym (eighth d.bytes d.len (seven_bytes d k)) ∙ ap (λ xs. get_or xs 7 0) eight ∙ eighth e.bytes e.len (seven_bytes e l) in
-    ap (λ x. let r : Designation = record d { bytes = x } in r) bytes ∙ ap (λ x. let r : Designation = record e { len = x } in r) len
+    let eight : d.bytes ++ d.len ∷ [] ≡ e.bytes ++ e.len ∷ [] = sym (digits d k) ∙ ap (to_le_bytes w64) p
+    ∙ digits e l in
+    let bytes : d.bytes ≡ e.bytes = sym (first_seven d.bytes d.len (seven_bytes d k)) ∙ ap (take 7) eight
+    ∙ first_seven e.bytes e.len (seven_bytes e l) in
+    let len : d.len ≡ e.len = sym (eighth d.bytes d.len (seven_bytes d k)) ∙ ap (λ xs. get_or xs 7 0) eight
+    ∙ eighth e.bytes e.len (seven_bytes e l) in
+    ap (λ x. let r : Designation = record d { bytes = x } in
+    r) bytes ∙ ap (λ x. let r : Designation = record e { len = x } in r) len

@@ -14,10 +14,12 @@ unfolding all_below second_kind
 are_second_kinds = refl
 
 pub first_kind-at : (pair : ℕ) → pair < 21 → get_or FIRST_KINDS pair 0 ≡ first_kind pair
-first_kind-at pair below = (Decides-eqb _ _).0 (passes_at (λ pair. eqb (get_or FIRST_KINDS pair 0) (first_kind pair)) 21 pair are_first_kinds below)
+first_kind-at pair below = (Decides-eqb _ _).0 (passes_at (λ pair. eqb (get_or FIRST_KINDS pair 0) (first_kind pair)) 21
+    pair are_first_kinds below)
 
 pub second_kind-at : (pair : ℕ) → pair < 21 → get_or SECOND_KINDS pair 0 ≡ second_kind pair
-second_kind-at pair below = (Decides-eqb _ _).0 (passes_at (λ pair. eqb (get_or SECOND_KINDS pair 0) (second_kind pair)) 21 pair are_second_kinds below)
+second_kind-at pair below = (Decides-eqb _ _).0 (passes_at (λ pair. eqb (get_or SECOND_KINDS pair 0) (second_kind pair))
+    21 pair are_second_kinds below)
 
 pub first_kind-below : (pair : ℕ) → pair < 21 → first_kind pair < 14
 unfolding first_kind

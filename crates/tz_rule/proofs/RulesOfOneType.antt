@@ -33,21 +33,26 @@ module _ (r : AlternateTime) where
 
   module _ (starts ends : List ℤ) (ts : IsTableOf (start_of r) starts) (te : IsTableOf (end_of r) ends) where
     -- each start has the end of the next year, and none comes before it
-    pub one_type_across_years : EndsNextYear (start_of r) (end_of r) → ¬ ComesBeforeNext starts ends → HasOneType (Alternate r)
+    pub one_type_across_years : EndsNextYear (start_of r) (end_of r) → ¬ ComesBeforeNext starts ends
+        → HasOneType (Alternate r)
     one_type_across_years across never = one_type_if_never (λ v (y, end, pair, from, to).
-        never (comes_before_next-from (start_of r) (end_of r) starts ends ts te y (omega (arith, ints, from, to, paired_end-unique (start_of r) (end_of r) true across y end pair))))
+        never (comes_before_next-from (start_of r) (end_of r) starts ends ts te y
+        (omega (arith, ints, from, to, paired_end-unique (start_of r) (end_of r) true across y end pair))))
 
     -- each start has the end of its own year, and none comes before it
     pub one_type_in_order : ¬ EndsNextYear (start_of r) (end_of r) → ¬ ComesFirst starts ends → HasOneType (Alternate r)
     one_type_in_order in_order never = one_type_if_never (λ v (y, end, pair, from, to).
-        never (comes_first-from (start_of r) (end_of r) starts ends ts te y (omega (arith, ints, from, to, paired_end-unique (start_of r) (end_of r) false in_order y end pair))))
+        never (comes_first-from (start_of r) (end_of r) starts ends ts te y
+        (omega (arith, ints, from, to, paired_end-unique (start_of r) (end_of r) false in_order y end pair))))
 
     -- no end comes before the next year's start
-    pub one_type_without_gap : IsInRuleRange r → AreRuleDays r → ¬ EndsNextYear (start_of r) (end_of r) → ¬ ComesBeforeNext ends starts → HasOneType (Alternate r)
+    pub one_type_without_gap : IsInRuleRange r → AreRuleDays r → ¬ EndsNextYear (start_of r) (end_of r)
+        → ¬ ComesBeforeNext ends starts → HasOneType (Alternate r)
     one_type_without_gap range days in_order never = one_type_if_always (λ v (year, is, _).
         let first = year -ℤ pos 2 in
         let last : first +ℤ pos 4 ≡ year +ℤ pos 2 = omega (arith, ints) in
-        joined v 4 first (over (start_of r) starts_are v year first is (omega (arith, ints))) (rw last (to_come (end_of r) ends_are v year (year +ℤ pos 2) is (omega (arith, ints)))))
+        joined v 4 first (over (start_of r) starts_are v year first is (omega (arith, ints)))
+        (rw last (to_come (end_of r) ends_are v year (year +ℤ pos 2) is (omega (arith, ints)))))
       where
         starts_are : IsYearly (start_of r)
         starts_are = IsYearly-start_of r range days.start_is
@@ -56,11 +61,14 @@ module _ (r : AlternateTime) where
         ends_are = IsYearly-end_of r range days.end_is
 
         next_start : (y : ℤ) → start_of r (y +ℤ pos 1) ≤ℤ end_of r y
-        next_start y = by_lt_z (end_of r y) (start_of r (y +ℤ pos 1)) (λ gap. absurd (never (comes_before_next-from (end_of r) (start_of r) ends starts te ts y gap))) (λ h. h)
+        next_start y = by_lt_z (end_of r y) (start_of r (y +ℤ pos 1))
+            (λ gap. absurd (never (comes_before_next-from (end_of r) (start_of r) ends starts te ts y gap))) (λ h. h)
 
         -- from a start up to an end some years later the spans join
-        joined : (v : ℤ) (n : ℕ) (y : ℤ) → start_of r y ≤ℤ v → v <ℤ end_of r (y +ℤ pos n) → IsDaylight (start_of r) (end_of r) v
-        joined v zero y from to = let same : y +ℤ pos 0 ≡ y = omega (arith, ints) in (y, end_of r y, inr (in_order, refl), from, rw same at to)
+        joined : (v : ℤ) (n : ℕ) (y : ℤ) → start_of r y ≤ℤ v → v <ℤ end_of r (y +ℤ pos n)
+            → IsDaylight (start_of r) (end_of r) v
+        joined v zero y from to = let same : y +ℤ pos 0 ≡ y = omega (arith, ints) in
+            (y, end_of r y, inr (in_order, refl), from, rw same at to)
         joined v (suc n) y from to =
             by_lt_z v (end_of r y)
             (λ here. (y, end_of r y, inr (in_order, refl), from, here))

@@ -1,28 +1,29 @@
--- The table of a day is made of its places in the years of each kind.
+-- The table of a day is made of its days in the years of each kind.
 use Rattle.std.proofs.Common.{◌≡◌, ℕ, ◌+◌, ◌-◌, ◌*◌, ◌<◌, Bool, true, false, refl, inl, inr, length, get_or, sym, ap, ◌∙◌, arith, ℤ, pos, ◌+ℤ◌, List}
 use Rattle.std.proofs.lemmas.Bool.{cases_lt}
 use Rattle.std.proofs.lemmas.List.FromFn.{fill_by_all}
 use Rattle.tz_rule.specs.Kinds.{kind_of}
-use Rattle.tz_rule.specs.Places.{place_in_year}
+use Rattle.tz_rule.specs.YearDays.{year_day_of}
 use Rattle.tz_rule.specs.YearTables.{entry, seconds_in_kind, day_table}
 use Rattle.tz_rule.specs.declared.timezone.rule_day.RuleDay.{RuleDay}
 use Rattle.tz_rule.proofs.PairKinds.{kind_of-parts}
 
-seconds_in_kind-is : (d : RuleDay) (seconds : ℤ) (leap : Bool) (w : ℕ) → w < 7 → seconds_in_kind d seconds (kind_of leap w) ≡ pos (86400 * place_in_year d leap w) +ℤ seconds
+seconds_in_kind-is : (d : RuleDay) (seconds : ℤ) (leap : Bool) (w : ℕ) → w < 7
+    → seconds_in_kind d seconds (kind_of leap w) ≡ pos (86400 * year_day_of d leap w) +ℤ seconds
 seconds_in_kind-is d seconds leap w below = let parts = kind_of-parts leap w below in rw (parts.1, parts.2) refl
 
 pub day_table-from : (d : RuleDay) (seconds : ℤ) (entries : List ℤ) (normal leap : List ℕ) → length entries ≡ 14
     → ((k : ℕ) → k < 7 → entry entries k ≡ pos (86400 * get_or normal k 0) +ℤ seconds)
     → ((k : ℕ) → k < 7 → entry entries (7 + k) ≡ pos (86400 * get_or leap k 0) +ℤ seconds)
-    → ((w : ℕ) → w < 7 → get_or normal w 0 ≡ place_in_year d false w)
-    → ((w : ℕ) → w < 7 → get_or leap w 0 ≡ place_in_year d true w)
+    → ((w : ℕ) → w < 7 → get_or normal w 0 ≡ year_day_of d false w)
+    → ((w : ℕ) → w < 7 → get_or leap w 0 ≡ year_day_of d true w)
     → entries ≡ day_table d seconds
 unfolding day_table
 day_table-from d seconds entries normal leap size normal_made leap_made normal_is leap_is =
     fill_by_all (seconds_in_kind d seconds) entries 14 (pos 0) size each
   where
     scaled : ℕ → ℤ
-    scaled place = pos (86400 * place) +ℤ seconds
+    scaled year_day = pos (86400 * year_day) +ℤ seconds
 
     each : (k : ℕ) → k < 14 → entry entries k ≡ seconds_in_kind d seconds k
     each k below = elim (cases_lt k 7) [
@@ -31,5 +32,6 @@ day_table-from d seconds entries normal leap size normal_made leap_made normal_i
           let w = k - 7 in
           let small : w < 7 = omega (arith, h, below) in
           let same : k ≡ 7 + w = omega (arith, h) in
-          ap (entry entries) same ∙ leap_made w small ∙ ap scaled (leap_is w small) ∙ sym (seconds_in_kind-is d seconds true w small) ∙ ap (seconds_in_kind d seconds) (sym same)
+          ap (entry entries) same ∙ leap_made w small ∙ ap scaled (leap_is w small)
+          ∙ sym (seconds_in_kind-is d seconds true w small) ∙ ap (seconds_in_kind d seconds) (sym same)
     ]

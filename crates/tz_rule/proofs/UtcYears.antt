@@ -17,7 +17,8 @@ IsUtcYear-from_civil u n f c =
 
 pub utc_year_unique : (u x y : ℤ) → IsUtcYear u x → IsUtcYear u y → x ≡ y
 utc_year_unique u x y a b =
-    by_lt_z x y (λ h. absurd (apart x y h a b)) (λ h. by_lt_z y x (λ h'. absurd (apart y x h' b a)) (λ h'. omega (arith, ints)))
+    by_lt_z x y (λ h. absurd (apart x y h a b)) (λ h. by_lt_z y x (λ h'. absurd (apart y x h' b a))
+    (λ h'. omega (arith, ints)))
   where
     apart : (x y : ℤ) → x <ℤ y → IsUtcYear u x → IsUtcYear u y → ⊥
     apart x y h a b = omega (arith, ints, a.1, b.0, first_day-mono (x +ℤ pos 1) y (omega (arith, ints)))

@@ -31,4 +31,5 @@ MatchBool-by_test true if_true if_false = if_true refl
 MatchBool-by_test false if_true if_false = if_false refl
 
 pub MatchBool-lt_z : {P Q : Type 0} (a b : ℤ) → (a <ℤ b → P) → (b ≤ℤ a → Q) → MatchBool (lt_z a b) P Q
-MatchBool-lt_z a b if_true if_false = MatchBool-by_test (lt_z a b) (λ e. if_true (grind (arith, ints))) (λ e. if_false (grind (arith, ints)))
+MatchBool-lt_z a b if_true if_false = MatchBool-by_test (lt_z a b) (λ e. if_true (grind (arith, ints)))
+    (λ e. if_false (grind (arith, ints)))

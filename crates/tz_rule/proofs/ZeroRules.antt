@@ -2,8 +2,8 @@
 use Rattle.std.proofs.Common.{◌≡◌, ◌&&◌, false, refl, arith, inl, pos, replicate, List, ℤ}
 use Rattle.std.proofs.lemmas.Int.{ints}
 use Rattle.std.proofs.lemmas.List.{get_or-replicate}
-use Rattle.tz_rule.specs.KeptRule.{IsKeptRule, parts_of}
-use Rattle.tz_rule.specs.Places.{place_in_year}
+use Rattle.tz_rule.specs.RuleInside.{IsRuleInside, parts_of}
+use Rattle.tz_rule.specs.YearDays.{year_day_of}
 use Rattle.tz_rule.specs.YearTables.{entry, AreBounds, ComesFirst, day_table, start_table, end_table, is_inner, least_entry, greatest_entry}
 use Rattle.tz_rule.specs.ZeroRule.{zero_rule}
 use Rattle.tz_rule.proofs.ApartBounds.{never_first, no_order_changes}
@@ -13,11 +13,11 @@ abbrev zeros : List ℤ
 zeros = replicate 14 (pos 0)
 
 starts_are : zeros ≡ start_table zero_rule
-unfolding start_table day_table place_in_year
+unfolding start_table day_table year_day_of
 starts_are = refl
 
 ends_are : zeros ≡ end_table zero_rule
-unfolding end_table day_table place_in_year
+unfolding end_table day_table year_day_of
 ends_are = refl
 
 are_bounds : AreBounds zeros (pos 0) (pos 0)
@@ -32,11 +32,29 @@ is_outer : false ≡ (is_inner zeros && is_inner zeros)
 unfolding least_entry greatest_entry
 is_outer = refl
 
-pub zeros_kept : IsKeptRule (record { parts = parts_of zero_rule; ends_next_year = false; has_inner_switches = false; starts = record { 0 = zeros }; ends = record { 0 = zeros } })
+pub zeros_kept : IsRuleInside (record {
+  parts = parts_of zero_rule;
+  ends_next_year = false;
+  has_inner_switches = false;
+  starts = record { 0 = zeros };
+  ends = record { 0 = zeros };
+})
 zeros_kept =
-    kept_from (record { parts = parts_of zero_rule; ends_next_year = false; has_inner_switches = false; starts = record { 0 = zeros }; ends = record { 0 = zeros } })
-    (record { std_is = (omega (arith, ints), omega (arith, ints)); dst_is = (omega (arith, ints), omega (arith, ints)); start_is = (omega (arith, ints), omega (arith, ints)); end_is = (omega (arith, ints), omega (arith, ints)) })
+    kept_from (record {
+      parts = parts_of zero_rule;
+      ends_next_year = false;
+      has_inner_switches = false;
+      starts = record { 0 = zeros };
+      ends = record { 0 = zeros };
+    })
+    (record {
+      std_is = (omega (arith, ints), omega (arith, ints));
+      dst_is = (omega (arith, ints), omega (arith, ints));
+      start_is = (omega (arith, ints), omega (arith, ints));
+      end_is = (omega (arith, ints), omega (arith, ints));
+    })
     (record { start_is = omega arith; end_is = omega arith })
     starts_are ends_are
-    (no_order_changes zeros zeros (pos 0) (pos 0) (pos 0) (pos 0) are_bounds are_bounds (omega (arith, ints)) (omega (arith, ints)) (inl never_before))
+    (no_order_changes zeros zeros (pos 0) (pos 0) (pos 0) (pos 0) are_bounds are_bounds (omega (arith, ints))
+    (omega (arith, ints)) (inl never_before))
     never_before is_outer

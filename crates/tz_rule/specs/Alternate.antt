@@ -1,4 +1,5 @@
--- What contracts see of an alternate rule, and which type it has at an instant. (POSIX.1-2017, Base Definitions, 8.3: the TZ variable.)
+-- What contracts see of an alternate rule, and which type it has at an instant. (POSIX.1-2017, Base
+-- Definitions, 8.3: the TZ variable.)
 use Rattle.std.specs.Prelude.{◌≡◌, ◌⊎◌, Bool, ℤ, pos, negsuc, ◌+ℤ◌, ◌-ℤ◌, ◌*ℤ◌, ◌≤ℤ◌, ◌<ℤ◌, if◌then◌else◌}
 use Rattle.tz_base.specs.Days.{first_day}
 use Rattle.tz_base.specs.declared.error.timezone.TransitionRuleError.{TransitionRuleError}
@@ -19,7 +20,14 @@ pub record AlternateTime : Type 0 where
 -- the rule with these parts
 abbrev pub alternate_of : LocalTimeType → LocalTimeType → RuleDay → ℤ → RuleDay → ℤ → AlternateTime
 alternate_of std dst dst_start dst_start_time dst_end dst_end_time =
-    record { std = std; dst = dst; dst_start = dst_start; dst_start_time = dst_start_time; dst_end = dst_end; dst_end_time = dst_end_time }
+    record {
+      std = std;
+      dst = dst;
+      dst_start = dst_start;
+      dst_start_time = dst_start_time;
+      dst_end = dst_end;
+      dst_end_time = dst_end_time;
+    }
 
 -- both days are such as their types allow
 pub record AreRuleDays (r : AlternateTime) : Type 0 where
@@ -53,26 +61,31 @@ pub record IsInRuleRange (r : AlternateTime) : Type 0 where
   pub start_is : IsRuleTime r.dst_start_time
   pub end_is : IsRuleTime r.dst_end_time
 
--- a rule in range whose start and end never change their strict order, whatever the years and their distance
+-- a rule in range whose start and end never change their strict order, whatever the years and their
+-- distance
 pub record IsConsistentRule (r : AlternateTime) : Type 0 where
   pub in_range : IsInRuleRange r
   pub consistent : ¬ IsInconsistent (start_of r) (end_of r)
 
--- the fault that is named if several are out of range: the standard offset's, the daylight offset's, and then that of a time
+-- the fault that is named if several are out of range: the standard offset's, the daylight
+-- offset's, and then that of a time
 abbrev pub IsRangeFault : AlternateTime → TransitionRuleError → Type 0
 IsRangeFault r InvalidStdUtcOffset = ¬ IsRuleOffset r.std.ut_offset
 IsRangeFault r InvalidDstUtcOffset = IsRuleOffset r.std.ut_offset × ¬ IsRuleOffset r.dst.ut_offset
 IsRangeFault r InvalidDstStartEndTime =
-    IsRuleOffset r.std.ut_offset × IsRuleOffset r.dst.ut_offset × ¬ (IsRuleTime r.dst_start_time × IsRuleTime r.dst_end_time)
+    IsRuleOffset r.std.ut_offset × IsRuleOffset r.dst.ut_offset
+    × ¬ (IsRuleTime r.dst_start_time × IsRuleTime r.dst_end_time)
 IsRangeFault r _ = ⊥
 
 -- the fault that is named: one of range, or else that the rule is inconsistent
 abbrev pub IsFirstRuleFault : AlternateTime → TransitionRuleError → Type 0
-IsFirstRuleFault r e = IsRangeFault r e ⊎ ((e ≡ InconsistentRule) × IsInRuleRange r × IsInconsistent (start_of r) (end_of r))
+IsFirstRuleFault r e = IsRangeFault r e
+    ⊎ ((e ≡ InconsistentRule) × IsInRuleRange r × IsInconsistent (start_of r) (end_of r))
 
 -- the year of an instant in UTC
 abbrev pub IsUtcYear : ℤ → ℤ → Type 0
-IsUtcYear u year = ((pos 86400 *ℤ first_day year) ≤ℤ u) × (u <ℤ (pos 86400 *ℤ first_day (year +ℤ pos 1)))
+IsUtcYear u year = ((pos 86400 *ℤ first_day year) ≤ℤ u)
+    × (u <ℤ (pos 86400 *ℤ first_day (year +ℤ pos 1)))
 
 -- years that are two years or more from both ends of 32 bits
 abbrev pub IsRuleYear : ℤ → Type 0
@@ -84,11 +97,13 @@ IsInRuleYears u = (year : ℤ) × IsUtcYear u year × IsRuleYear year
 
 -- less than ten days outside a year in UTC
 abbrev pub IsNearYear : ℤ → ℤ → Type 0
-IsNearYear u year = ((pos 86400 *ℤ first_day year) <ℤ (u +ℤ pos 864000)) × (u <ℤ (pos 86400 *ℤ first_day (year +ℤ pos 1) +ℤ pos 864000))
+IsNearYear u year = ((pos 86400 *ℤ first_day year) <ℤ (u +ℤ pos 864000))
+    × (u <ℤ (pos 86400 *ℤ first_day (year +ℤ pos 1) +ℤ pos 864000))
 
 -- the type of an alternate rule at an instant
 abbrev pub IsAlternateType : AlternateTime → ℤ → LocalTimeType → Type 0
-IsAlternateType r u t = (IsDaylight (start_of r) (end_of r) u × (t ≡ r.dst)) ⊎ (¬ IsDaylight (start_of r) (end_of r) u × (t ≡ r.std))
+IsAlternateType r u t = (IsDaylight (start_of r) (end_of r) u × (t ≡ r.dst))
+    ⊎ (¬ IsDaylight (start_of r) (end_of r) u × (t ≡ r.std))
 
 -- no start and no end is after the first instant, up to the second
 pub record IsUnchanged (r : AlternateTime) (u v : ℤ) : Type 0 where

@@ -1,8 +1,9 @@
--- Rule days as numbers: the kind, a number of Julian days and zero-based days, and those of a week day of a month. (POSIX.1-2017, 8.3: n, Jn, Mm.w.d.)
+-- Rule days as numbers: the kind, a number of Julian days and zero-based days, and those of a week
+-- day of a month. (POSIX.1-2017, 8.3: n, Jn, Mm.w.d.)
 use Rattle.std.specs.Prelude.{◌≡◌, ℕ, zero, suc}
 use Rattle.tz_rule.specs.MonthWeek.{MonthWeek, month_week}
 use Rattle.tz_rule.specs.RuleDays.{IsRuleDay}
-use Rattle.tz_rule.specs.declared.timezone.day_data.DayData.TheInside.{Inside}
+use Rattle.tz_rule.specs.declared.timezone.rule_day.DayData.TheInside.{Inside}
 use Rattle.tz_rule.specs.declared.timezone.rule_day.RuleDay.{RuleDay}
 use Rattle.tz_rule.specs.declared.timezone.rule_day.RuleDay.TheVariants.{Julian1WithoutLeap, Julian0WithLeap, MonthWeekDay}
 
@@ -19,7 +20,13 @@ day_of d = day_of_kind d.kind d.number (month_week d.month d.week d.week_day)
 abbrev pub data_of : RuleDay → Inside
 data_of (Julian0WithLeap n) = record { number = n; kind = 0; month = 0; week = 0; week_day = 0 }
 data_of (Julian1WithoutLeap n) = record { number = n; kind = 1; month = 0; week = 0; week_day = 0 }
-data_of (MonthWeekDay d) = record { number = 0; kind = 2; month = d.month; week = d.week; week_day = d.week_day }
+data_of (MonthWeekDay d) = record {
+  number = 0;
+  kind = 2;
+  month = d.month;
+  week = d.week;
+  week_day = d.week_day;
+}
 
 -- the numbers are those of a rule day
 pub record IsDayData (d : Inside) : Type 0 where

@@ -1,4 +1,5 @@
--- How a local time type keeps its name: seven bytes, of which the first are the name and the others zero, and the length, 0 if there is no name.
+-- How a local time type keeps its name: seven bytes, of which the first are the name and the others
+-- zero, and the length, 0 if there is no name.
 use Rattle.std.specs.Prelude.{◌≡◌, ℕ, zero, suc, ◌-◌, ◌≤◌, ◌==◌, Bool, Option, Some, None, List, ◌∷◌, [], ◌++◌, length, take, replicate}
 use Rattle.std.specs.Int.{w64, from_le_bytes}
 use Rattle.std.proofs.Common.{refl, ap, arith, length-append, length-take}
@@ -45,7 +46,11 @@ same_designation d e = word_of d == word_of e
 
 -- what a local time type shows
 abbrev pub shown : Inside → LocalTimeType
-shown t = record { ut_offset = t.ut_offset; is_dst = t.is_dst; designation = stored_name t.time_zone_designation }
+shown t = record {
+  ut_offset = t.ut_offset;
+  is_dst = t.is_dst;
+  designation = stored_name t.time_zone_designation;
+}
 
 pub record IsKeptType (t : Inside) : Type 0 where
   pub offset_is : IsOffset t.ut_offset
@@ -54,16 +59,32 @@ pub record IsKeptType (t : Inside) : Type 0 where
 pub seven_bytes : (d : Designation) → IsKept d → length d.bytes ≡ 7
 seven_bytes d k =
     let name = take d.len d.bytes in
-    omega (arith, ap length k.is_padded, length-append name (replicate (7 - length name) 0), length-replicate {A = ℕ} (7 - length name) 0, length-take d.len d.bytes, k.short)
+    omega (
+      arith,
+      ap length k.is_padded,
+      length-append name
+          (replicate (7 - length name) 0),
+      length-replicate {A =
+          ℕ} (7 - length name) 0,
+      length-take d.len d.bytes,
+      k.short,
+    )
 
 -- the keeper of the name, and the fields of the type, come back from what is shown
 pub kept_stored_name : (d : Designation) → IsKept d → kept (stored_name d) ≡ d
 kept_stored_name d k = by_length d.len d.bytes k.short k.is_padded (seven_bytes d k)
   where
-    by_length : (n : ℕ) (bytes : List ℕ) → n ≤ 7 → bytes ≡ padded (take n bytes) → length bytes ≡ 7 → kept (name_of_length n bytes) ≡ record { bytes = bytes; len = n }
+    by_length : (n : ℕ) (bytes : List ℕ) → n ≤ 7 → bytes ≡ padded (take n bytes) → length bytes ≡ 7
+        → kept (name_of_length n bytes) ≡ record { bytes = bytes; len = n }
     by_length zero bytes short padding seven = rw (← padding) refl
     by_length (suc n) bytes short padding seven =
-        let same : length (take (suc n) bytes) ≡ suc n = omega (arith, seven, length-take (suc n) bytes, short) in rw (← padding, same) refl
+        let same : length (take (suc n) bytes) ≡ suc n =
+        omega (arith, seven, length-take (suc n) bytes, short) in rw (← padding, same) refl
 
-pub kept_shown : (t : Inside) → IsKeptType t → record { ut_offset = t.ut_offset; is_dst = t.is_dst; time_zone_designation = kept (stored_name t.time_zone_designation) } ≡ t
+pub kept_shown : (t : Inside) → IsKeptType t → record {
+  ut_offset = t.ut_offset;
+  is_dst = t.is_dst;
+  time_zone_designation =
+      kept (stored_name t.time_zone_designation);
+} ≡ t
 kept_shown t k = rw (kept_stored_name t.time_zone_designation k.designation_is) refl

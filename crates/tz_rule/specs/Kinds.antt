@@ -1,4 +1,5 @@
--- Kinds of years: in all years of one kind the days of the year fall on the same week days. (The leap years and week days of the Gregorian calendar.)
+-- Kinds of years: in all years of one kind the days of the year fall on the same week days. (The
+-- leap years and week days of the Gregorian calendar.)
 use Rattle.std.specs.Prelude.{◌≡◌, ℕ, ◌+◌, ◌%◌, ◌<◌, Bool, ℤ, pos, ◌+ℤ◌, unsigned_abs, nat_lt, nat_le, if◌then◌else◌}
 use Rattle.tz_base.specs.Days.{is_leap, year_length, first_day, week_day_of}
 
@@ -22,8 +23,9 @@ is_leap_kind kind = nat_le 7 kind
 abbrev pub week_day_of_kind : ℕ → ℕ
 week_day_of_kind kind = kind % 7
 
--- Two years that follow one another are of one of 21 pair kinds, each for the seven week days of the first year's January 1st:
--- from 0 neither is leap, from 7 the second is, and from 14 the first is.
+-- Two years that follow one another are of one of 21 pair kinds, each for the seven week days of
+-- the first year's January 1st: from 0 neither is leap, from 7 the second is, and from 14 the first
+-- is.
 
 -- the kind of the first year
 unfoldable pub first_kind : ℕ → ℕ
@@ -31,7 +33,8 @@ first_kind pair = if nat_lt pair 14 then pair % 7 else 7 + pair % 7
 
 -- the kind of the second year
 unfoldable pub second_kind : ℕ → ℕ
-second_kind pair = if nat_lt pair 7 then (pair + 1) % 7 else (if nat_lt pair 14 then 7 + (pair + 1) % 7 else (pair + 2) % 7)
+second_kind pair = if nat_lt pair 7 then
+    (pair + 1) % 7 else (if nat_lt pair 14 then 7 + (pair + 1) % 7 else (pair + 2) % 7)
 
 -- the days of the first year
 unfoldable pub first_days : ℕ → ℕ

@@ -5,14 +5,14 @@ pub mod Designation
 pub mod JulianDay
 pub mod MonthWeek
 pub mod Kinds
-pub mod Places
+pub mod YearDays
 pub mod RuleDays
 pub mod DayData
 pub mod Pairing
 pub mod Alternate
 pub mod YearTables
 pub mod Parts
-pub mod KeptRule
+pub mod RuleInside
 pub mod ZeroRule
 pub mod RuleWithDays
 pub mod Rule

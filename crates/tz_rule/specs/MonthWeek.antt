@@ -32,5 +32,6 @@ pub record IsMonthWeek (d : MonthWeek) : Type 0 where
 abbrev pub IsFirstMonthWeekFault : MonthWeek → TransitionRuleError → Type 0
 IsFirstMonthWeekFault d InvalidRuleDayMonth = ¬ IsRuleMonth d.month
 IsFirstMonthWeekFault d InvalidRuleDayWeek = IsRuleMonth d.month × ¬ IsRuleWeek d.week
-IsFirstMonthWeekFault d InvalidRuleDayWeekDay = IsRuleMonth d.month × IsRuleWeek d.week × ¬ IsRuleWeekDay d.week_day
+IsFirstMonthWeekFault d InvalidRuleDayWeekDay = IsRuleMonth d.month × IsRuleWeek d.week
+    × ¬ IsRuleWeekDay d.week_day
 IsFirstMonthWeekFault d _ = ⊥

@@ -1,4 +1,5 @@
--- Starts and ends of daylight saving time over all whole years, as two functions from years to instants.
+-- Starts and ends of daylight saving time over all whole years, as two functions from years to
+-- instants.
 use Rattle.std.specs.Prelude.{◌≡◌, ◌⊎◌, ℤ, pos, ◌+ℤ◌, ◌≤ℤ◌, ◌<ℤ◌}
 
 -- at a distance in years, start and end have one strict order in year y and the other one in year x
@@ -13,10 +14,13 @@ IsInconsistent starts ends = (x : ℤ) × (y : ℤ) × (k : ℤ) × IsConflict s
 abbrev pub EndsNextYear : (ℤ → ℤ) → (ℤ → ℤ) → Type 0
 EndsNextYear starts ends = (y : ℤ) × (ends y <ℤ starts y)
 
--- the end that belongs to the start of a year: the next year's if the rule ends in the next year, else the same year's
+-- the end that belongs to the start of a year: the next year's if the rule ends in the next year,
+-- else the same year's
 abbrev pub IsPairedEnd : (ℤ → ℤ) → (ℤ → ℤ) → ℤ → ℤ → Type 0
-IsPairedEnd starts ends y end = (EndsNextYear starts ends × (end ≡ ends (y +ℤ pos 1))) ⊎ (¬ EndsNextYear starts ends × (end ≡ ends y))
+IsPairedEnd starts ends y end = (EndsNextYear starts ends × (end ≡ ends (y +ℤ pos 1)))
+    ⊎ (¬ EndsNextYear starts ends × (end ≡ ends y))
 
 -- an instant from some year's start up to, not including, its paired end
 abbrev pub IsDaylight : (ℤ → ℤ) → (ℤ → ℤ) → ℤ → Type 0
-IsDaylight starts ends u = (y : ℤ) × (end : ℤ) × IsPairedEnd starts ends y end × (starts y ≤ℤ u) × (u <ℤ end)
+IsDaylight starts ends u = (y : ℤ) × (end : ℤ) × IsPairedEnd starts ends y end × (starts y ≤ℤ u)
+    × (u <ℤ end)

@@ -5,7 +5,8 @@ use Rattle.tz_rule.specs.Alternate.{IsInRuleYears, IsAlternateType, IsConsistent
 use Rattle.tz_rule.specs.declared.timezone.transition_rule.TransitionRule.{TransitionRule}
 use Rattle.tz_rule.specs.declared.timezone.transition_rule.TransitionRule.TheVariants.{Fixed, Alternate}
 
--- a fixed rule has its type always, an alternate rule one of its types in the years over which it is defined
+-- a fixed rule has its type always, an alternate rule one of its types in the years over which it
+-- is defined
 unfoldable pub IsRuleType : TransitionRule → ℤ → LocalTimeType → Type 0
 IsRuleType (Fixed fixed) u t = t ≡ fixed
 IsRuleType (Alternate r) u t = IsInRuleYears u × IsAlternateType r u t

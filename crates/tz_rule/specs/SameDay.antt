@@ -26,20 +26,26 @@ Decides-same_month_week a b =
     Decides-like (same_month_week a b)
     (λ h. same_parts h.0 h.1.0 h.1.1)
     (λ e. (ap (λ d. d.month) e, (ap (λ d. d.week) e, ap (λ d. d.week_day) e)))
-    (Decides-and (a.month == b.month) (a.week == b.week && a.week_day == b.week_day) (Decides-eqb a.month b.month)
-    (Decides-and (a.week == b.week) (a.week_day == b.week_day) (Decides-eqb a.week b.week) (Decides-eqb a.week_day b.week_day)))
+    (Decides-and (a.month == b.month) (a.week == b.week && a.week_day == b.week_day)
+    (Decides-eqb a.month b.month)
+    (Decides-and (a.week == b.week) (a.week_day == b.week_day) (Decides-eqb a.week b.week)
+    (Decides-eqb a.week_day b.week_day)))
   where
     same_parts : a.month ≡ b.month → a.week ≡ b.week → a.week_day ≡ b.week_day → a ≡ b
-    same_parts m w d = let same : month_week a.month a.week a.week_day ≡ month_week b.month b.week b.week_day = cc in same
+    same_parts m w d = let same : month_week a.month a.week a.week_day
+        ≡ month_week b.month b.week b.week_day = cc in same
 
 -- equal rule days
 pub Decides-same_day : (a b : RuleDay) → Decides (same_day a b) (a ≡ b)
-Decides-same_day (Julian1WithoutLeap a) (Julian1WithoutLeap b) = Decides-like (a == b) (ap Julian1WithoutLeap) (λ e. cc) (Decides-eqb a b)
+Decides-same_day (Julian1WithoutLeap a) (Julian1WithoutLeap b) =
+    Decides-like (a == b) (ap Julian1WithoutLeap) (λ e. cc) (Decides-eqb a b)
 Decides-same_day (Julian1WithoutLeap a) (Julian0WithLeap b) = (λ h. absurd (false≢true h), λ e. cc)
 Decides-same_day (Julian1WithoutLeap a) (MonthWeekDay b) = (λ h. absurd (false≢true h), λ e. cc)
 Decides-same_day (Julian0WithLeap a) (Julian1WithoutLeap b) = (λ h. absurd (false≢true h), λ e. cc)
-Decides-same_day (Julian0WithLeap a) (Julian0WithLeap b) = Decides-like (a == b) (ap Julian0WithLeap) (λ e. cc) (Decides-eqb a b)
+Decides-same_day (Julian0WithLeap a) (Julian0WithLeap b) =
+    Decides-like (a == b) (ap Julian0WithLeap) (λ e. cc) (Decides-eqb a b)
 Decides-same_day (Julian0WithLeap a) (MonthWeekDay b) = (λ h. absurd (false≢true h), λ e. cc)
 Decides-same_day (MonthWeekDay a) (Julian1WithoutLeap b) = (λ h. absurd (false≢true h), λ e. cc)
 Decides-same_day (MonthWeekDay a) (Julian0WithLeap b) = (λ h. absurd (false≢true h), λ e. cc)
-Decides-same_day (MonthWeekDay a) (MonthWeekDay b) = Decides-like (same_month_week a b) (ap MonthWeekDay) (λ e. cc) (Decides-same_month_week a b)
+Decides-same_day (MonthWeekDay a) (MonthWeekDay b) =
+    Decides-like (same_month_week a b) (ap MonthWeekDay) (λ e. cc) (Decides-same_month_week a b)

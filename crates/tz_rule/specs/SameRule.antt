@@ -27,19 +27,38 @@ pub Decides-same_alternate : (a b : AlternateTime) → Decides (same_alternate a
 Decides-same_alternate a b =
     Decides-like (same_alternate a b)
     (λ h. same_parts h.0 h.1.0 h.1.1.0 h.1.1.1.0 h.1.1.1.1.0 h.1.1.1.1.1)
-    (λ e. (ap (λ r. r.std) e, (ap (λ r. r.dst) e, (ap (λ r. r.dst_start) e, (ap (λ r. r.dst_start_time) e, (ap (λ r. r.dst_end) e, ap (λ r. r.dst_end_time) e))))))
+    (λ e. (
+      ap (λ r. r.std) e,
+      (
+        ap (λ r. r.dst) e,
+        (
+          ap (λ r. r.dst_start) e,
+          (
+            ap (λ r. r.dst_start_time) e,
+            (ap (λ r. r.dst_end) e, ap (λ r. r.dst_end_time) e),
+          ),
+        ),
+      ),
+    ))
     (Decides-and _ _ (Decides-same_type a.std b.std)
     (Decides-and _ _ (Decides-same_type a.dst b.dst)
     (Decides-and _ _ (Decides-same_day a.dst_start b.dst_start)
     (Decides-and _ _ (Decides-int_eq a.dst_start_time b.dst_start_time)
-    (Decides-and _ _ (Decides-same_day a.dst_end b.dst_end) (Decides-int_eq a.dst_end_time b.dst_end_time))))))
+    (Decides-and _ _ (Decides-same_day a.dst_end b.dst_end)
+    (Decides-int_eq a.dst_end_time b.dst_end_time))))))
   where
-    same_parts : a.std ≡ b.std → a.dst ≡ b.dst → a.dst_start ≡ b.dst_start → a.dst_start_time ≡ b.dst_start_time → a.dst_end ≡ b.dst_end → a.dst_end_time ≡ b.dst_end_time → a ≡ b
+    same_parts : a.std ≡ b.std → a.dst ≡ b.dst → a.dst_start ≡ b.dst_start
+        → a.dst_start_time ≡ b.dst_start_time → a.dst_end ≡ b.dst_end
+        → a.dst_end_time ≡ b.dst_end_time → a ≡ b
     same_parts s d x y z w =
-        let same : alternate_of a.std a.dst a.dst_start a.dst_start_time a.dst_end a.dst_end_time ≡ alternate_of b.std b.dst b.dst_start b.dst_start_time b.dst_end b.dst_end_time = cc in same
+        let same : alternate_of a.std a.dst a.dst_start a.dst_start_time a.dst_end a.dst_end_time
+        ≡ alternate_of b.std b.dst b.dst_start b.dst_start_time b.dst_end b.dst_end_time = cc in
+        same
 
 pub Decides-same_rule : (a b : TransitionRule) → Decides (same_rule a b) (a ≡ b)
-Decides-same_rule (Fixed a) (Fixed b) = Decides-like (same_type a b) (ap Fixed) (λ e. cc) (Decides-same_type a b)
+Decides-same_rule (Fixed a) (Fixed b) =
+    Decides-like (same_type a b) (ap Fixed) (λ e. cc) (Decides-same_type a b)
 Decides-same_rule (Fixed a) (Two b) = (λ h. absurd (false≢true h), λ e. cc)
 Decides-same_rule (Two a) (Fixed b) = (λ h. absurd (false≢true h), λ e. cc)
-Decides-same_rule (Two a) (Two b) = Decides-like (same_alternate a b) (ap Two) (λ e. cc) (Decides-same_alternate a b)
+Decides-same_rule (Two a) (Two b) =
+    Decides-like (same_alternate a b) (ap Two) (λ e. cc) (Decides-same_alternate a b)

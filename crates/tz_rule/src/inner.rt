@@ -1,11 +1,10 @@
-//! For the crates above and their tests, and not part of the public API: references to rules and what is asked of them, rules as plain data,
-//! and the parts of UTC's zone.
+//! For the crates above and their tests, and not part of the public API: references to rules and
+//! what is asked of them, rules as plain data, and the parts of UTC's zone.
 
-pub use crate::timezone::alternate_data::AlternateData;
-pub use crate::timezone::day_data::DayData;
+pub use crate::timezone::alternate_time::AlternateData;
 pub use crate::timezone::rule_changes::{RuleChange, change_after, change_up_to};
-pub use crate::timezone::rule_data::RuleData;
-pub use crate::timezone::rule_ref::{
-    RuleRef, end, find_local_time_type, parts_are_sound, segment_at, start,
+pub use crate::timezone::rule_day::DayData;
+pub use crate::timezone::transition_rule::{
+    RuleData, RuleRef, end, find_local_time_type, parts_are_sound, segment_at, start,
 };
 pub use crate::timezone::utc_statics::{no_rule, utc_types};

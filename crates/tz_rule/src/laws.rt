@@ -23,7 +23,9 @@ pub fn rule_parts_are_sound(rule: &TransitionRule)
 /// A rule has no two types at an instant.
 #[tactic(auto, using(crate::proofs::RuleTypes::rule_type_unique))]
 pub fn rule_types_are_unique()
-    ensures { (rule : Rule) (u : ℤ) (t t' : LocalTimeType) → IsRuleType rule u t → IsRuleType rule u t' → t ≡ t' }
+    ensures { (rule : Rule) (u : ℤ) (t t' : LocalTimeType) → IsRuleType rule u t
+        → IsRuleType rule u t'
+        → t ≡ t' }
 {}
 
 /// A rule has a type at each instant of the years over which it is defined.
@@ -36,7 +38,8 @@ pub fn rule_types_are_total(rule: &TransitionRule)
 
 /// If no start and no end is after an instant, up to a later one, the rule has one type at both.
 pub fn rule_types_change_at_starts_and_ends()
-    ensures { (r : AlternateTime) (u v : ℤ) (t : LocalTimeType) → u ≤ℤ v → IsUnchanged r u v → IsAlternateType r u t → IsAlternateType r v t }
+    ensures { (r : AlternateTime) (u v : ℤ) (t : LocalTimeType) → u ≤ℤ v → IsUnchanged r u v
+        → IsAlternateType r u t → IsAlternateType r v t }
 {}
 
 /// Each start and each end is less than ten days outside its year.
@@ -47,11 +50,15 @@ pub fn starts_and_ends_are_near(rule: &AlternateTime)
     rule.plain().parts_are_sound();
 }
 
-/// For an instant only the starts and ends of its year in UTC and of the two neighbours matter: earlier ones are over, and later ones are yet to
-/// come.
+/// For an instant only the starts and ends of its year in UTC and of the two neighbours matter:
+/// earlier ones are over, and later ones are yet to come.
 pub fn far_starts_and_ends_are_over_or_to_come(rule: &AlternateTime)
-    ensures over { (u year y : ℤ) → IsUtcYear u year → (y +ℤ pos 2) ≤ℤ year → (start_of rule.now y ≤ℤ u) × (end_of rule.now y ≤ℤ u) }
-    ensures to_come { (u year y : ℤ) → IsUtcYear u year → (year +ℤ pos 2) ≤ℤ y → (u <ℤ start_of rule.now y) × (u <ℤ end_of rule.now y) }
+    ensures over { (u year y : ℤ) → IsUtcYear u year → (y +ℤ pos 2) ≤ℤ year
+        → (start_of rule.now y ≤ℤ u)
+        × (end_of rule.now y ≤ℤ u) }
+    ensures to_come { (u year y : ℤ) → IsUtcYear u year → (year +ℤ pos 2) ≤ℤ y
+        → (u <ℤ start_of rule.now y)
+        × (u <ℤ end_of rule.now y) }
 {
     rule.plain().parts_are_sound();
 }
@@ -59,7 +66,8 @@ pub fn far_starts_and_ends_are_over_or_to_come(rule: &AlternateTime)
 /// After 400 years, which are 12622780800 seconds, a rule has the same type.
 #[tactic(auto, using(crate::proofs::RuleTypes::rule_type_repeats))]
 pub fn rule_types_repeat(rule: &TransitionRule)
-    ensures { (u : ℤ) (t t' : LocalTimeType) → IsRuleType rule.now u t → IsRuleType rule.now (u +ℤ pos 12622780800) t' → t ≡ t' }
+    ensures { (u : ℤ) (t t' : LocalTimeType) → IsRuleType rule.now u t
+        → IsRuleType rule.now (u +ℤ pos 12622780800) t' → t ≡ t' }
 {
     rule_parts_are_sound(rule);
 }

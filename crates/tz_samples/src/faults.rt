@@ -14,6 +14,7 @@ pub enum Fault {
     Rule(TransitionRuleError),
     Zone(TimeZoneError),
     NoType,
+    OutOfRange,
     Memory,
     Io,
     Other,
@@ -29,6 +30,7 @@ pub fn named(error: TzError) -> Fault {
         TzError::TransitionRule(part) => Fault::Rule(part),
         TzError::TimeZone(part) => Fault::Zone(part),
         TzError::NoAvailableLocalTimeType => Fault::NoType,
+        TzError::OutOfRange => Fault::OutOfRange,
         TzError::Memory(_) => Fault::Memory,
         _ => Fault::Other,
     }

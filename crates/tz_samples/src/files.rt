@@ -8,7 +8,8 @@ pub const UTC_V1: &[u8] = b"TZif\0\
     \0\0\0\0\0\0\0\0\0\0\0\0\0\0\0\0\0\0\0\x01\0\0\0\x04\
     \0\0\0\0\0\0UTC\0";
 
-/// Israel from 2038 on, as a file of version 3: one type of two hours east, in the second block a transition to it, and a rule.
+/// Israel from 2038 on, as a file of version 3: one type of two hours east, in the second block a
+/// transition to it, and a rule.
 pub const JERUSALEM_V3: &[u8] = b"TZif3\
     \0\0\0\0\0\0\0\0\0\0\0\0\0\0\0\
     \0\0\0\0\0\0\0\0\0\0\0\0\0\0\0\0\0\0\0\x01\0\0\0\x04\
@@ -19,7 +20,21 @@ pub const JERUSALEM_V3: &[u8] = b"TZif3\
     \0\0\0\0\x7f\xe8\x17\x80\0\0\0\x1c\x20\0\0IST\0\x01\x01\
     \nIST-2IDT,M3.4.4/26,M10.5.0\n";
 
-/// Writes a header: the counts of UT/local and standard/wall indicators, leap seconds, transitions, types and name bytes.
+/// A file of version 4 with one type, UTC, and leap seconds from 2016 on that expire.
+pub const UTC_V4: &[u8] = b"TZif4\
+    \0\0\0\0\0\0\0\0\0\0\0\0\0\0\0\
+    \0\0\0\0\0\0\0\0\0\0\0\0\0\0\0\0\0\0\0\x01\0\0\0\x04\
+    \0\0\0\0\0\0UTC\0\
+    TZif4\
+    \0\0\0\0\0\0\0\0\0\0\0\0\0\0\0\
+    \0\0\0\0\0\0\0\0\0\0\0\x02\0\0\0\0\0\0\0\x01\0\0\0\x04\
+    \0\0\0\0\0\0UTC\0\
+    \0\0\0\0\x58\x68\x46\x9a\0\0\0\x1b\
+    \0\0\0\0\x65\x53\xf1\0\0\0\0\x1b\
+    \n\n";
+
+/// Writes a header: the counts of UT/local and standard/wall indicators, leap seconds, transitions,
+/// types and name bytes.
 pub fn push_header(bytes: &mut Vec<u8>, version: u8, counts: &[u32]) -> Result<(), AllocError> {
     bytes.extend_from_slice(b"TZif")?;
     bytes.push(version)?;
@@ -28,11 +43,6 @@ pub fn push_header(bytes: &mut Vec<u8>, version: u8, counts: &[u32]) -> Result<(
         bytes.extend_from_slice(&count.to_be_bytes())?;
     }
     Ok(())
-}
-
-/// The bytes of `UTC_V1`, to be altered.
-pub fn utc_v1(alloc: Global) -> Result<Vec<u8>, AllocError> {
-    Vec::from_slice(alloc, UTC_V1)
 }
 
 /// A file with one type, UTC, without transitions, and a footer.

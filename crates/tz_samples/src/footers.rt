@@ -1,6 +1,8 @@
-//! The texts in the footers of the time zone database's files, as of 2025, and the rules that they denote by tz-rs.
+//! The texts in the footers of the time zone database's files, as of 2025, and the rules that they
+//! denote by tz-rs.
 //!
-//! After ` | ` each row has the name and the offset from UTC of each type, and then the day and the time of day of each change, in seconds.
+//! After ` | ` each row has the name and the offset from UTC of each type, and then the day and the
+//! time of day of each change, in seconds.
 
 static ORDINARY: &str = "\
 <+01>-1 | +01 3600

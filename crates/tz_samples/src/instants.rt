@@ -1,8 +1,10 @@
 //! Instants as dates and times of day.
 
-/// The Unix time of a date and a time of day of UTC, as in `utc!(2000-03-26 01:00:00)`: a constant, which a static can hold.
+/// The Unix time of a date and a time of day of UTC, as in `utc!(2000-03-26 01:00:00)`: a constant,
+/// which a static can hold.
 ///
-/// The days before a date are 365 for each year, those of the months before it, and a leap day for each leap year whose February is over.
+/// The days before a date are 365 for each year, those of the months before it, and a leap day for
+/// each leap year whose February is over.
 #[macro_export]
 macro_rules! utc {
     ($year:literal-$month:tt-$day:literal $hour:literal:$minute:literal:$second:literal) => {
@@ -31,7 +33,8 @@ macro_rules! utc {
     (@leap_years $year:expr) => { $year / 4 - $year / 100 + $year / 400 };
 }
 
-/// The leap times of the leap seconds from 1972 to 2016, each of one second more: the first moment after one, plus the number of those before it.
+/// The leap times of the leap seconds from 1972 to 2016, each of one second more: the first moment
+/// after one, plus the number of those before it.
 pub static LEAP_TIMES: [i64; 27] = [
     utc!(1972-07-01 00:00:00),
     utc!(1973-01-01 00:00:00) + 1,

@@ -1,7 +1,6 @@
-//! What several test crates use: instants, rules, date times, zones and files, and an allocator that refuses.
+//! What several test crates use: instants, rules, zones and files, and an allocator that refuses.
 #![tactic(auto)]
 
-pub mod date_times;
 pub mod faults;
 pub mod files;
 pub mod footers;

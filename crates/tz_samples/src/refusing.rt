@@ -33,7 +33,8 @@ impl Counts {
     }
 }
 
-/// An allocator for tests that passes a given number of allocations on to another one, and then fails.
+/// An allocator for tests that passes a given number of allocations on to another one, and then
+/// fails.
 ///
 /// Collections take it as `&Refusing`. Growing or shrinking a block is an allocation too.
 #[derive(Drop)]
@@ -60,7 +61,8 @@ impl<B: Allocator> Refusing<B> {
         self.counts.refused.get()
     }
 
-    /// How many allocations were passed on and not freed since. One that failed in `inner` counts too.
+    /// How many allocations were passed on and not freed since. One that failed in `inner` counts
+    /// too.
     pub fn held(&self) -> u64 {
         self.counts.held.get()
     }

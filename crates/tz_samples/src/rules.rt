@@ -1,7 +1,7 @@
 //! Rules and their parts as rows of tables, and the rule of Central Europe.
 //!
-//! No proof walks through a static, which holds no type with a model, such as a rule. So tables of tests hold these rows, and functions make of them
-//! what they stand for.
+//! No proof walks through a static, which holds no type with a model, such as a rule. So tables of
+//! tests hold these rows, and functions make of them what they stand for.
 
 use tz_base::error::TzError;
 use tz_base::error::timezone::TransitionRuleError;
@@ -23,7 +23,8 @@ pub enum Day {
     Month(u8, u8, u8),
 }
 
-/// The types of standard time and of daylight saving time, and the days and times of day in seconds at which the latter starts and ends.
+/// The types of standard time and of daylight saving time, and the days and times of day in seconds
+/// at which the latter starts and ends.
 pub type RuleRow = (TypeRow, TypeRow, (Day, i32), (Day, i32));
 
 /// The local time type of a row.
@@ -52,7 +53,8 @@ pub fn rule_of(row: &RuleRow) -> Result<AlternateTime, TzError> {
     Ok(rule)
 }
 
-/// The standard and the daylight type of Central Europe, and the days and times of day at which the latter starts and ends.
+/// The standard and the daylight type of Central Europe, and the days and times of day at which the
+/// latter starts and ends.
 static CENTRAL_EUROPE: RuleRow = (
     (3600, false, Some(b"CET")),
     (7200, true, Some(b"CEST")),

@@ -18,7 +18,8 @@ pub fn ordinary_rule(alloc: Global, text: &str) -> Result<Option<TransitionRule>
     Ok(*zone.as_ref().extra_rule())
 }
 
-/// The zone of a file of version 3 with one type, UTC, and this footer, where day times are of up to a week.
+/// The zone of a file of version 3 with one type, UTC, and this footer, where day times are of up
+/// to a week.
 pub fn extended_zone(alloc: Global, text: &str) -> Result<TimeZone, TzError> {
     let footer = format!(in alloc; "\n{text}\n")?;
     let bytes = without_transitions(alloc, b'3', footer.as_bytes())?;

@@ -1,7 +1,7 @@
 //! Zones and their parts as rows of tables, beside the rows of rules.
 //!
-//! No proof walks through a static, which holds no type with a model, such as a transition. So tables of tests hold these rows, and functions make
-//! of them what they stand for.
+//! No proof walks through a static, which holds no type with a model, such as a transition. So
+//! tables of tests hold these rows, and functions make of them what they stand for.
 
 use crate::rules::{Day, RuleRow, TypeRow, rule_of, type_of};
 use std::alloc::{AllocError, Global};
@@ -96,6 +96,24 @@ pub fn transitions_of(alloc: Global, rows: &[(i64, usize)]) -> Result<Vec<Transi
     Ok(transitions)
 }
 
+/// This many transitions, a million seconds apart from 0 on, to types 0 and 1 in turn.
+pub fn transitions_in_turn(alloc: Global, count: u32) -> Result<Vec<Transition>, AllocError> {
+    let mut transitions = Vec::new(alloc);
+    for i in 0..count {
+        let unix_leap_time = i64::from(i) * 1_000_000;
+        transitions.push(Transition::new(unix_leap_time, i as usize % 2))?;
+    }
+    Ok(transitions)
+}
+
+/// The types of offset 0 and of an hour.
+pub fn hour_apart() -> Result<[LocalTimeType; 2], TzError> {
+    Ok([
+        LocalTimeType::with_ut_offset(0)?,
+        LocalTimeType::with_ut_offset(3600)?,
+    ])
+}
+
 /// The leap seconds with these leap times and corrections.
 fn leap_seconds_of(alloc: Global, rows: &[(i64, i32)]) -> Result<Vec<LeapSecond>, AllocError> {
     let mut leap_seconds = Vec::new(alloc);
@@ -131,7 +149,8 @@ pub fn zone_of(alloc: Global, row: &ZoneRow) -> Result<TimeZone, TzError> {
     zone_with_rule(alloc, row, extra_rule_of(&row.extra_rule)?)
 }
 
-/// The zone of types with these offsets alone, of transitions to the types at these places, and of a rule with an offset or none.
+/// The zone of types with these offsets alone, of transitions to the types at these places, and of
+/// a rule with an offset or none.
 pub fn plain_zone(
     alloc: Global,
     ut_offsets: &[i32],

@@ -8,7 +8,6 @@ use std::test::Fail;
 use std::time::Duration;
 use tz::datetime::{DateTime, UtcDateTime};
 use tz_base::error::TzError;
-use tz_samples::date_times::{NOONS, Parts};
 use tz_samples::utc;
 use tz_zone::timezone::{LocalTimeType, TimeZone};
 
@@ -26,8 +25,11 @@ fn expect_text(
     Ok(())
 }
 
+/// A year, a month, a day of the month, hour, minute and second, and nanoseconds.
+type Parts = (i32, u8, u8, (u8, u8, u8), u32);
+
 /// The parts of a local date time, and the offset.
-pub(crate) type Local = (Parts, i32);
+type Local = (Parts, i32);
 
 /// The parts of a date time of UTC.
 pub(crate) fn parts_of_utc(d: UtcDateTime) -> Parts {
@@ -36,13 +38,13 @@ pub(crate) fn parts_of_utc(d: UtcDateTime) -> Parts {
 }
 
 /// The date time of UTC with these parts.
-pub(crate) fn utc_of(parts: Parts) -> Result<UtcDateTime, TzError> {
+fn utc_of(parts: Parts) -> Result<UtcDateTime, TzError> {
     let (year, month, month_day, (hour, minute, second), nanoseconds) = parts;
     UtcDateTime::new(year, month, month_day, hour, minute, second, nanoseconds)
 }
 
 /// The date time with these parts, and an offset.
-pub(crate) fn local_of(local: Local) -> Result<DateTime, TzError> {
+fn local_of(local: Local) -> Result<DateTime, TzError> {
     let ((year, month, month_day, (hour, minute, second), nanoseconds), ut_offset) = local;
     let local_time_type = LocalTimeType::with_ut_offset(ut_offset)?;
     DateTime::new(
@@ -56,6 +58,24 @@ pub(crate) fn local_of(local: Local) -> Result<DateTime, TzError> {
         local_time_type,
     )
 }
+
+/// Unix times with the date of UTC at 12:01:06.
+static NOONS: [(i64, i32, u8, u8); 14] = [
+    (-93750523134, -1001, 3, 1),
+    (-11670955134, 1600, 2, 29),
+    (-11670868734, 1600, 3, 1),
+    (-8515195134, 1700, 3, 1),
+    (-8483659134, 1701, 3, 1),
+    (-8389051134, 1704, 2, 29),
+    (-8388964734, 1704, 3, 1),
+    (951825666, 2000, 2, 29),
+    (951912066, 2000, 3, 1),
+    (983448066, 2001, 3, 1),
+    (1078056066, 2004, 2, 29),
+    (1078142466, 2004, 3, 1),
+    (4107585666, 2100, 3, 1),
+    (32540356866, 3001, 3, 1),
+];
 
 #[test]
 fn utc_date_times_have_the_parts_of_their_instant(rt: HostRuntime) -> Result<(), Fail> {
@@ -146,21 +166,13 @@ fn the_first_second_of_2000(rt: HostRuntime) -> Result<(), Fail> {
 
 /// The days from one date to the next that has the week day of another one. By the ranges that the
 /// calls promise nothing wraps here and below, without a proof of the caller's own.
-fn days_to_week_day(from: &UtcDateTime, to: &UtcDateTime) -> u8 {
+fn days_to_week_day(from: &UtcDateTime, to: &DateTime) -> u8 {
     (7 + to.week_day() - from.week_day()) % 7
 }
 
-fn local_days_to_week_day(from: &DateTime, to: &DateTime) -> u8 {
-    (7 + to.week_day() - from.week_day()) % 7
-}
-
-/// The days of a leap year that are left after a date of it.
-fn days_left_of_leap_year(date: &UtcDateTime) -> u16 {
-    365 - date.year_day()
-}
-
-fn local_days_left_of_leap_year(date: &DateTime) -> u16 {
-    365 - date.year_day()
+/// The days of leap years that are left after a date of each.
+fn days_left_of_leap_years(date: &UtcDateTime, local: &DateTime) -> u16 {
+    365 - date.year_day() + (365 - local.year_day())
 }
 
 /// The seconds that are added to what the date time shows for UTC.
@@ -172,13 +184,10 @@ fn seconds_to_utc(date_time: &DateTime) -> i32 {
 #[test]
 fn callers_count_by_the_ranges(rt: HostRuntime) -> Result<(), Fail> {
     let new_year = utc_of((2000, 1, 1, (0, 0, 0), 0))?;
-    let leap_day = utc_of((2024, 2, 29, (0, 0, 0), 0))?;
-    expect_eq(&rt, &days_to_week_day(&new_year, &leap_day), &5);
-    expect_eq(&rt, &days_left_of_leap_year(&leap_day), &306);
-    let new_year = local_of(((2000, 1, 1, (0, 0, 0), 0), 3600))?;
     let leap_day = local_of(((2024, 2, 29, (0, 0, 0), 0), i32::MIN + 1))?;
-    expect_eq(&rt, &local_days_to_week_day(&new_year, &leap_day), &5);
-    expect_eq(&rt, &local_days_left_of_leap_year(&leap_day), &306);
+    expect_eq(&rt, &days_to_week_day(&new_year, &leap_day), &5);
+    let days = days_left_of_leap_years(&new_year, &leap_day);
+    expect_eq(&rt, &days, &(365 + 306));
     expect_eq(&rt, &seconds_to_utc(&leap_day), &i32::MAX);
     Ok(())
 }
@@ -236,23 +245,4 @@ fn second_60_is_before_the_next_minute(rt: HostRuntime) -> Result<(), Fail> {
     expect_eq(&rt, &new_year.unix_time(), &NEW_YEAR);
     let text = "2016-12-31T23:59:60.000000000Z";
     Ok(expect_text(&rt, rt.alloc(), &second_60, text)?)
-}
-
-#[test]
-fn offsets_are_printed(rt: HostRuntime) -> Result<(), Fail> {
-    static OFFSETS: [(i32, &str); 7] = [
-        (1, "1970-01-01T00:00:01.000000000+00:00:01"),
-        (-1, "1969-12-31T23:59:59.000000000-00:00:01"),
-        (3599, "1970-01-01T00:59:59.000000000+00:59:59"),
-        (-3599, "1969-12-31T23:00:01.000000000-00:59:59"),
-        (129_600_000, "1974-02-09T00:00:00.000000000+36000:00"),
-        (i32::MAX, "2038-01-19T03:14:07.000000000+596523:14:07"),
-        (i32::MIN + 1, "1901-12-13T20:45:53.000000000-596523:14:07"),
-    ];
-    for &(ut_offset, text) in OFFSETS.iter() {
-        let local_time_type = LocalTimeType::with_ut_offset(ut_offset)?;
-        let date_time = DateTime::from_timespec_and_local(0, 0, local_time_type)?;
-        expect_text(&rt, rt.alloc(), &date_time, text)?;
-    }
-    Ok(())
 }

@@ -14,8 +14,6 @@ mod memory;
 #[cfg(test)]
 mod parsed;
 #[cfg(test)]
-mod printed;
-#[cfg(test)]
 mod searches;
 #[cfg(test)]
 mod tz_strings;

@@ -1,4 +1,5 @@
-//! What local times mean: how often clocks show them or are set forward over them, and the one date time by each choice.
+//! What local times mean: how often clocks show them or are set forward over them, and the one date
+//! time by each choice.
 
 use crate::expect::expect_eq;
 use crate::searches::{Reading, name, parts_of};
@@ -61,8 +62,9 @@ fn meaning_text(alloc: Global, answer: &Result<Meaning, TzError>) -> Result<Stri
     })
 }
 
-/// What both calls answer to a local time and seven nanoseconds, each answer ended by `;`: the one that takes the fields, and the one that takes them
-/// as one value. First its meaning, and then what each choice chooses.
+/// What both calls answer to a local time and seven nanoseconds, each answer ended by `;`: the one
+/// that takes the fields, and the one that takes them as one value. First its meaning, and then
+/// what each choice chooses.
 fn texts(
     alloc: Global,
     zone: TimeZoneRef<'_>,
@@ -114,8 +116,9 @@ fn expect_meanings(
     Ok(())
 }
 
-/// Clocks are set forward at 2:00 on March 8th, and back at 2:00 on November 1st. Second 60 reads as the next second, over which clocks may be set
-/// forward; what they show elsewhere has no second 60.
+/// Clocks are set forward at 2:00 on March 8th, and back at 2:00 on November 1st. Second 60 reads
+/// as the next second, over which clocks may be set forward; what they show elsewhere has no second
+/// 60.
 #[test]
 fn new_york_in_2026(rt: HostRuntime) -> Result<(), Fail> {
     static ROWS: &str = "\
@@ -151,8 +154,8 @@ fn a_local_time_that_is_jumped_over_and_then_shown(rt: HostRuntime) -> Result<()
     expect_meanings(&rt, rt.alloc(), &zone, ROW)
 }
 
-/// Clocks show a local time three times; are set forward over one and then show it twice; show one once between two jumps; show one twice before a
-/// jump; and have no type any more.
+/// Clocks show a local time three times; are set forward over one and then show it twice; show one
+/// once between two jumps; show one twice before a jump; and have no type any more.
 #[test]
 fn three_instants_and_jumps(rt: HostRuntime) -> Result<(), Fail> {
     static ROWS: &str = "\
@@ -185,7 +188,8 @@ fn two_jumps_alone(rt: HostRuntime) -> Result<(), Fail> {
     expect_meanings(&rt, rt.alloc(), &zone, ROW)
 }
 
-/// What the clock shows at the instant that is meant lies past an end of the years of 32 bits, or the jump itself does, and then there is no list.
+/// What the clock shows at the instant that is meant lies past an end of the years of 32 bits, or
+/// the jump itself does, and then there is no list.
 #[test]
 fn jumps_near_the_ends(rt: HostRuntime) -> Result<(), Fail> {
     // When clocks of UTC are set two hours forward.

@@ -7,7 +7,8 @@ use std::test::Fail;
 use tz::{Error, TzError, UtcDateTime};
 use tz_samples::refusing::Refusing;
 
-/// The printed date times. A text that is not made and one that finds no room in the list are the same refusal.
+/// The printed date times. A text that is not made and one that finds no room in the list are the
+/// same refusal.
 fn printed_list<A: Allocator + Copy>(
     alloc: A,
     date_times: &[UtcDateTime],

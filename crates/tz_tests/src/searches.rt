@@ -7,7 +7,8 @@ use tz::datetime::{DateTime, FoundDateTimeKind, FoundDateTimeList};
 use tz_base::error::TzError;
 use tz_zone::timezone::TimeZoneRef;
 
-/// A Unix time, and the offsets before it and at it; those of a date time that is shown are the same.
+/// A Unix time, and the offsets before it and at it; those of a date time that is shown are the
+/// same.
 pub(crate) type Summary = (i64, i32, i32);
 
 /// Year, month, day of the month, hour, minute, second.

@@ -3,57 +3,59 @@ use Rattle.std.proofs.Common.{◌≡◌, sym, subst, arith, ℕ, zero, suc, ◌<
 use Rattle.std.specs.Iterator.{YieldsThen}
 use Rattle.std.proofs.lemmas.Int.{ints, by_lt_z}
 use Rattle.tz_zone.specs.Changes.{Change, change_of, IsChange, IsFollowing, IsPreceding, HasNoFollowing, HasNoPreceding}
-use Rattle.tz_zone.specs.ChangesInTurn.{Place, place_after, place_before, GivesFollowing, GivesPreceding, IsNthFollowing, IsNthPreceding}
+use Rattle.tz_zone.specs.ChangesInTurn.{Position, position_after, position_before, GivesFollowing, GivesPreceding, IsNthFollowing, IsNthPreceding}
 use Rattle.tz_zone.specs.Table.{Zone}
-use Rattle.tz_zone.specs.declared.clock.change.Change.{Change as KeptChange}
-use Rattle.tz_zone.specs.declared.timezone.change_iterators.ChangesAfter.{ChangesAfter}
-use Rattle.tz_zone.specs.declared.timezone.change_iterators.ChangesBefore.{ChangesBefore}
+use Rattle.tz_zone.specs.declared.clock.segment.Change.{Change as KeptChange}
+use Rattle.tz_zone.specs.declared.timezone.changes.ChangesAfter.{ChangesAfter}
+use Rattle.tz_zone.specs.declared.timezone.changes.ChangesBefore.{ChangesBefore}
 use Rattle.tz_zone.proofs.NearestChanges.{one_change, one_following, one_preceding}
 
 pub nth_given_after : (s : ChangesAfter) (earlier : List KeptChange) (c : KeptChange) (t : ChangesAfter)
     → YieldsThen GivesFollowing s earlier (Some c) t
-    → IsNthFollowing (place_after s).zone (place_after s).unix_time (length earlier) (change_of c)
+    → IsNthFollowing (position_after s).zone (position_after s).unix_time (length earlier) (change_of c)
 nth_given_after s [] c t (j, same, step) =
-    let nearest = λ (x : ChangesAfter). IsFollowing (place_after x).zone (place_after x).unix_time (change_of c) in
+    let nearest = λ (x : ChangesAfter). IsFollowing (position_after x).zone (position_after x).unix_time
+    (change_of c) in
     subst nearest (sym same) step.0
 nth_given_after s (x ∷ xs) c t (j, (k, first, rest), step) =
-    let moved = λ (p : Place). IsNthFollowing p.zone p.unix_time (length xs) (change_of c) in
+    let moved = λ (p : Position). IsNthFollowing p.zone p.unix_time (length xs) (change_of c) in
     (change_of x, first.0, subst moved first.1 (nth_given_after k xs c t (j, rest, step)))
 
 pub none_given_after : (s : ChangesAfter) (earlier : List KeptChange) (t : ChangesAfter)
     → YieldsThen GivesFollowing s earlier None t → (c : Change)
-    → ¬ IsNthFollowing (place_after s).zone (place_after s).unix_time (length earlier) c
+    → ¬ IsNthFollowing (position_after s).zone (position_after s).unix_time (length earlier) c
 none_given_after s [] t (j, same, step) c is =
-    let none = λ (x : ChangesAfter). HasNoFollowing (place_after x).zone (place_after x).unix_time in
+    let none = λ (x : ChangesAfter). HasNoFollowing (position_after x).zone (position_after x).unix_time in
     subst none (sym same) step.0 c is.above is.is
 none_given_after s (x ∷ xs) t (j, (k, first, rest), step) c (d, is, later) =
-    let z = (place_after s).zone in
-    let same = one_following z (place_after s).unix_time d (change_of x) is first.0 in
+    let z = (position_after s).zone in
+    let same = one_following z (position_after s).unix_time d (change_of x) is first.0 in
     let later' = subst (λ (e : Change). IsNthFollowing z e.unix_time (length xs) c) same later in
-    let moved = λ (p : Place). IsNthFollowing p.zone p.unix_time (length xs) c in
+    let moved = λ (p : Position). IsNthFollowing p.zone p.unix_time (length xs) c in
     none_given_after k xs t (j, rest, step) c (subst moved (sym first.1) later')
 
 pub nth_given_before : (s : ChangesBefore) (later : List KeptChange) (c : KeptChange) (t : ChangesBefore)
     → YieldsThen GivesPreceding s later (Some c) t
-    → IsNthPreceding (place_before s).zone (place_before s).unix_time (length later) (change_of c)
+    → IsNthPreceding (position_before s).zone (position_before s).unix_time (length later) (change_of c)
 nth_given_before s [] c t (j, same, step) =
-    let nearest = λ (x : ChangesBefore). IsPreceding (place_before x).zone (place_before x).unix_time (change_of c) in
+    let nearest = λ (x : ChangesBefore). IsPreceding (position_before x).zone (position_before x).unix_time
+    (change_of c) in
     subst nearest (sym same) step.0
 nth_given_before s (x ∷ xs) c t (j, (k, first, rest), step) =
-    let moved = λ (p : Place). IsNthPreceding p.zone p.unix_time (length xs) (change_of c) in
+    let moved = λ (p : Position). IsNthPreceding p.zone p.unix_time (length xs) (change_of c) in
     (change_of x, first.0, subst moved first.1 (nth_given_before k xs c t (j, rest, step)))
 
 pub none_given_before : (s : ChangesBefore) (later : List KeptChange) (t : ChangesBefore)
     → YieldsThen GivesPreceding s later None t → (c : Change)
-    → ¬ IsNthPreceding (place_before s).zone (place_before s).unix_time (length later) c
+    → ¬ IsNthPreceding (position_before s).zone (position_before s).unix_time (length later) c
 none_given_before s [] t (j, same, step) c is =
-    let none = λ (x : ChangesBefore). HasNoPreceding (place_before x).zone (place_before x).unix_time in
+    let none = λ (x : ChangesBefore). HasNoPreceding (position_before x).zone (position_before x).unix_time in
     subst none (sym same) step.0 c is.below is.is
 none_given_before s (x ∷ xs) t (j, (k, first, rest), step) c (d, is, earlier) =
-    let z = (place_before s).zone in
-    let same = one_preceding z (place_before s).unix_time d (change_of x) is first.0 in
+    let z = (position_before s).zone in
+    let same = one_preceding z (position_before s).unix_time d (change_of x) is first.0 in
     let earlier' = subst (λ (e : Change). IsNthPreceding z e.unix_time (length xs) c) same earlier in
-    let moved = λ (p : Place). IsNthPreceding p.zone p.unix_time (length xs) c in
+    let moved = λ (p : Position). IsNthPreceding p.zone p.unix_time (length xs) c in
     none_given_before k xs t (j, rest, step) c (subst moved (sym first.1) earlier')
 
 module _ (z : Zone) where

@@ -1,5 +1,6 @@
 -- From a stage of a walk on: the type of the clock until the next transition is reached, and the stages that follow.
-use Rattle.std.proofs.Common.{◌≡◌, ◌≢◌, ℕ, zero, suc, ◌+◌, ◌<◌, eqb, inl, inr, refl, sym, arith, ℤ, pos, ◌+ℤ◌, ◌≤ℤ◌, ◌<ℤ◌, List, [], length, Option, Some, None}
+use Rattle.std.proofs.Common.{◌≡◌, ◌≢◌, ℕ, zero, suc, ◌+◌, ◌<◌, eqb, inl, inr, sym, arith, ℤ, pos, ◌+ℤ◌, ◌≤ℤ◌}
+use Rattle.std.proofs.Common.{◌<ℤ◌, [], length, Option, Some, None}
 use Rattle.std.proofs.Math.Dec.{eqb-suc-zero}
 use Rattle.std.specs.Prelude.{slice_get, MatchOption}
 use Rattle.std.specs.Borrow.{Bor}
@@ -13,33 +14,46 @@ use Rattle.tz_zone.specs.Clock.{AreReached, IsTypeAt, IsTypeAfterTable, IsClock,
 use Rattle.tz_zone.specs.ClockSegments.{IsReachedAt}
 use Rattle.tz_zone.specs.ClockSpans.{IsStage}
 use Rattle.tz_zone.specs.ValidZone.{IsSoundTable}
-use Rattle.tz_zone.specs.ZoneSeen.{zone_seen}
-use Rattle.tz_zone.specs.declared.clock.span_walk.Stage.{Stage}
-use Rattle.tz_zone.specs.declared.table.other_parts.OtherParts.{OtherParts}
+use Rattle.tz_zone.specs.declared.clock.window_types.Stage.{Stage}
 use Rattle.tz_zone.proofs.LeapTimes.{leap_time_mono, one_leap_time, past_later}
 use Rattle.tz_zone.proofs.RisingTimes.{rising, ahead_from, reached_through}
-use Rattle.tz_zone.proofs.Places.{clock_at_place}
-use Rattle.tz_zone.proofs.PlaceRuns.{some_transitions, type_after, types_from_last}
+use Rattle.tz_zone.proofs.Positions.{clock_at_position}
+use Rattle.tz_zone.proofs.PositionRuns.{some_transitions, type_after, types_from_last}
 use Rattle.tz_zone.proofs.InstantsWithLeapTime.{defined_within, clock_without, leap_unless_refused, reached_from}
 
 -- the type after the table, or none, is that of the clock where all transitions are reached, and of one that has none
-pub types_after_table : (list : List Transition) (parts : OtherParts) → IsSoundTable (zone_seen list parts) → (count : ℕ) → count ≡ length list → (v : ℤ)
-    → (0 < length list → IsReachedAt (zone_seen list parts) v (length list))
-    → (type : Option (Bor LocalTimeType)) → MatchOption type ((t : LocalTimeType) → ¬ IsTypeAfterTable (eqb count 0) (zone_seen [] parts) v t) (λ t. IsTypeAfterTable (eqb count 0) (zone_seen [] parts) v t.now)
-    → MatchOption type (HasNoType (zone_seen list parts) v) (λ t. IsClock (zone_seen list parts) v t.now)
-types_after_table list parts sound zero is v reached (Some t) holds = rw (nil_from_length list (sym is)) (inl (refl, holds))
-types_after_table list parts sound zero is v reached None holds = rw (nil_from_length list (sym is)) (λ t clock. holds t ((clock_without (zone_seen [] parts) refl v t).1 clock))
-types_after_table list parts sound (suc before) is v reached type holds =
-    let some : 0 < length list = omega (arith, is) in
-    types_from_last (zone_seen list parts) sound some v (reached some) type (rw (eqb-suc-zero before) at holds)
+pub types_after_table : (z : Zone) → IsSoundTable z → (count : ℕ) → count ≡ length z.transitions → (v : ℤ)
+    → (0 < length z.transitions → IsReachedAt z v (length z.transitions)) → (type : Option (Bor LocalTimeType))
+    → MatchOption type ((t : LocalTimeType) → ¬ IsTypeAfterTable (eqb count 0) z v t)
+    (λ t. IsTypeAfterTable (eqb count 0) z v t.now)
+    → MatchOption type (HasNoType z v) (λ t. IsClock z v t.now)
+types_after_table z sound zero is v reached (Some t) holds = inl (nil_from_length z.transitions (sym is), holds)
+types_after_table z sound zero is v reached None holds =
+    λ t clock. holds t ((clock_without z (nil_from_length z.transitions (sym is)) v t).1 clock)
+types_after_table z sound (suc before) is v reached type holds =
+    let some : 0 < length z.transitions = omega (arith, is) in
+    types_from_last z sound some v (reached some) type (rw (eqb-suc-zero before) at holds)
 
 module _ (z : Zone) (sound : IsSoundTable z) (first since : ℤ) (s : Stage) (stage : IsStage z first since s) where
-  -- later instants have a leap time, up to the reach of all tables, and the transitions before the place are reached there
-  leap_later : z.transitions ≢ [] → (v : ℤ) → since ≤ℤ v → v ≤ℤ pos 80000000000000000 → (l : ℤ) × IsLeapTime z.leap_seconds v l × AreReached z.transitions l s.place
+  -- later instants have a leap time, up to the reach of all tables, and the transitions before the position are reached
+  -- there
+  leap_later : z.transitions ≢ [] → (v : ℤ) → since ≤ℤ v → v ≤ℤ pos 80000000000000000
+      → (l : ℤ) × IsLeapTime z.leap_seconds v l × AreReached z.transitions l s.position
   leap_later some v from to =
       let here = stage.reached some in
-      let leap = leap_unless_refused z.leap_seconds sound.leap_seconds_are v (defined_within z.leap_seconds sound.leap_seconds_are since v here.1.not_refused from to) in
-      (leap.0, leap.1, λ i change less at_i. omega (arith, ints, here.2 i change less at_i, leap_time_mono z.leap_seconds sound.leap_seconds_are since v here.0 leap.0 from here.1 leap.1))
+      let leap = leap_unless_refused z.leap_seconds sound.leap_seconds_are v
+      (defined_within z.leap_seconds sound.leap_seconds_are since v here.1.not_refused from to) in (
+        leap.0,
+        leap.1,
+        λ i change less at_i.
+            omega (
+              arith,
+              ints,
+              here.2 i change less at_i,
+              leap_time_mono z.leap_seconds sound.leap_seconds_are since v here.0
+                  leap.0 from here.1 leap.1,
+            ),
+      )
 
   pub stage_later : (v : ℤ) → since ≤ℤ v → v ≤ℤ pos 80000000000000000 → IsStage z first v s
   stage_later v from to = record {
@@ -51,7 +65,8 @@ module _ (z : Zone) (sound : IsSoundTable z) (first since : ℤ) (s : Stage) (st
   }
 
   -- where no transition is left all are reached
-  pub all_reached_later : s.place ≡ length z.transitions → 0 < length z.transitions → (v : ℤ) → since ≤ℤ v → v ≤ℤ pos 80000000000000000 → IsReachedAt z v (length z.transitions)
+  pub all_reached_later : s.position ≡ length z.transitions → 0 < length z.transitions → (v : ℤ) → since ≤ℤ v
+      → v ≤ℤ pos 80000000000000000 → IsReachedAt z v (length z.transitions)
   all_reached_later all some v from to =
       let here = leap_later (some_transitions z.transitions 0 some) v from to in
       record {
@@ -61,12 +76,12 @@ module _ (z : Zone) (sound : IsSoundTable z) (first since : ℤ) (s : Stage) (st
         ahead = λ i change above at_i. absurd (omega (arith, above, slice_get_within z.transitions i change at_i));
       }
 
-  module _ (next : Transition) (at_next : slice_get z.transitions s.place ≡ Some next) where
-    inside : s.place < length z.transitions
-    inside = slice_get_within z.transitions s.place next at_next
+  module _ (next : Transition) (at_next : slice_get z.transitions s.position ≡ Some next) where
+    inside : s.position < length z.transitions
+    inside = slice_get_within z.transitions s.position next at_next
 
     some : z.transitions ≢ []
-    some = some_transitions z.transitions s.place inside
+    some = some_transitions z.transitions s.position inside
 
     -- the next transition was not reached at the first instant
     pub defined_at_first : ¬ IsLeapTimeRefused z.leap_seconds first
@@ -75,28 +90,52 @@ module _ (z : Zone) (sound : IsSoundTable z) (first since : ℤ) (s : Stage) (st
     pub ahead_at_first : ¬ IsTimeReached z.leap_seconds next.unix_leap_time first
     ahead_at_first reached =
         let (l, leap, ahead) = stage.ahead some in
-        absurd (omega (arith, ints, ahead s.place next (omega arith) at_next, reached.2, one_leap_time z.leap_seconds first l reached.0 leap reached.1))
+        absurd (omega (
+          arith,
+          ints,
+          ahead s.position next (omega arith) at_next,
+          reached.2,
+          one_leap_time z.leap_seconds first l
+              reached.0 leap reached.1,
+        ))
 
     -- until it is reached the clock keeps its type
-    pub clock_before_next : (v : ℤ) → since ≤ℤ v → v ≤ℤ pos 80000000000000000 → ¬ IsTimeReached z.leap_seconds next.unix_leap_time v → IsClock z v s.local_time_type.now
+    pub clock_before_next : (v : ℤ) → since ≤ℤ v → v ≤ℤ pos 80000000000000000
+        → ¬ IsTimeReached z.leap_seconds next.unix_leap_time v → IsClock z v s.local_time_type.now
     clock_before_next v from to before =
         let (l, leap, reached) = leap_later some v from to in
         let early = by_lt_z l next.unix_leap_time (λ h. h) (λ h. absurd (before (l, leap, h))) in
-        clock_at_place z sound s.place v s.local_time_type.now inside (record { time = l; time_is = leap; reached = reached; ahead = ahead_from z.transitions (rising z sound) l s.place next at_next early }) stage.type_is
+        clock_at_position z sound s.position v s.local_time_type.now inside (record {
+          time = l;
+          time_is = leap;
+          reached = reached;
+          ahead = ahead_from z.transitions (rising z sound) l s.position next at_next early;
+        }) stage.type_is
 
-    -- after the last instant before it is reached the walk is one place further
-    pub stage_after_next : (last : ℤ) → IsLastBefore z.leap_seconds next.unix_leap_time last → (type : Bor LocalTimeType) → IsTypeAt z next.type_index type.now
-        → (v : ℤ) → since ≤ℤ v → v ≤ℤ pos 80000000000000000 → last <ℤ v → IsStage z first v (record { place = s.place + 1; local_time_type = type })
+    -- after the last instant before it is reached the walk is one position further
+    pub stage_after_next : (last : ℤ) → IsLastBefore z.leap_seconds next.unix_leap_time last
+        → (type : Bor LocalTimeType) → IsTypeAt z next.type_index type.now
+        → (v : ℤ) → since ≤ℤ v → v ≤ℤ pos 80000000000000000 → last <ℤ v
+        → IsStage z first v (record { position = s.position + 1; local_time_type = type })
     stage_after_next last before type is_type v from to after =
         let (l, leap, reached) = leap_later some v from to in
-        let there : IsTimeReached z.leap_seconds next.unix_leap_time v = elim (before.next (λ e. absurd (omega (arith, ints, e, after, to)))) [
-          | inl past ↦ absurd (leap.not_refused (inr (past_later z.leap_seconds sound.leap_seconds_are (last +ℤ pos 1) v (omega (arith, ints, after)) past)))
-          | inr wide ↦ reached_from z.leap_seconds sound.leap_seconds_are next.unix_leap_time (last +ℤ pos 1) v wide leap.not_refused (omega (arith, ints, after))
+        let there : IsTimeReached z.leap_seconds next.unix_leap_time v =
+        elim (before.next (λ e. absurd (omega (arith, ints, e, after, to)))) [
+          | inl past ↦ absurd (leap.not_refused
+              (inr (past_later z.leap_seconds sound.leap_seconds_are (last +ℤ pos 1) v (omega (arith, ints, after))
+              past)))
+          | inr wide ↦ reached_from z.leap_seconds sound.leap_seconds_are next.unix_leap_time
+              (last +ℤ pos 1) v wide leap.not_refused (omega (arith, ints, after))
         ] in
         record {
           within = omega (arith, inside);
-          type_is = type_after z s.place next type.now at_next is_type;
+          type_is = type_after z s.position next type.now at_next is_type;
           instant = stage.instant;
-          ahead = λ some. let (m, leap_m, ahead) = stage.ahead some in (m, leap_m, λ i change above at_i. ahead i change (omega (arith, above)) at_i);
-          reached = λ some. (there.0, there.1, reached_through z.transitions (rising z sound) there.0 s.place next at_next there.2);
+          ahead = λ some. let (m, leap_m, ahead) = stage.ahead some in
+              (m, leap_m, λ i change above at_i. ahead i change (omega (arith, above)) at_i);
+          reached = λ some. (
+            there.0,
+            there.1,
+            reached_through z.transitions (rising z sound) there.0 s.position next at_next there.2,
+          );
         }

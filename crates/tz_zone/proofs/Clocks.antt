@@ -14,7 +14,8 @@ use Rattle.tz_zone.specs.Clock.{AreReached, AreAhead, IsTypeAt, IsTypeOfLast, Is
 use Rattle.tz_zone.specs.ValidZone.{AreLeapSeconds}
 use Rattle.tz_zone.proofs.LeapTimes.{one_leap_time}
 
-pub last_unique : (transitions : List Transition) (last last' : Transition) → IsLast transitions last → IsLast transitions last' → last ≡ last'
+pub last_unique : (transitions : List Transition) (last last' : Transition) → IsLast transitions last
+    → IsLast transitions last' → last ≡ last'
 last_unique transitions last last' at at' = same_Some last last' (sym at ∙ at')
 
 -- where some transition is the last, there are some
@@ -22,7 +23,8 @@ pub some_from_last : (transitions : List Transition) (last : Transition) → IsL
 some_from_last transitions last at e = none-some last (rw e at at)
 
 -- without transitions
-pub fault_without : (z : Zone) → z.transitions ≡ [] → (u : ℤ) (e : TzError) → e ≡ OutOfRange → ((t : LocalTimeType) → ¬ IsTypeWithout z z.extra_rule u t) → IsLookupFault z u e
+pub fault_without : (z : Zone) → z.transitions ≡ [] → (u : ℤ) (e : TzError) → e ≡ OutOfRange
+    → ((t : LocalTimeType) → ¬ IsTypeWithout z z.extra_rule u t) → IsLookupFault z u e
 fault_without z none u e is never = inr (is, no_type, not_over)
   where
     no_type : (t : LocalTimeType) → ¬ IsClock z u t
@@ -33,12 +35,25 @@ fault_without z none u e is never = inr (is, no_type, not_over)
     not_over (last, l, is_last, leap, from, rule) = some_from_last z.transitions last is_last none
 
 -- the count of transitions that are reached determines the last one that is
-pub transition_type_of_last : (z : Zone) (l : ℤ) (k : ℕ) (t : LocalTimeType) → AreReached z.transitions l k → AreAhead z.transitions l k → IsTypeOfLast z k t → IsTransitionType z l t
-transition_type_of_last z l k t reached ahead (inl (none, type)) = inl ((λ i change at. ahead i change (omega (arith, none)) at), type)
+pub transition_type_of_last : (z : Zone) (l : ℤ) (k : ℕ) (t : LocalTimeType) → AreReached z.transitions l k
+    → AreAhead z.transitions l k → IsTypeOfLast z k t → IsTransitionType z l t
+transition_type_of_last z l k t reached ahead (inl (none, type)) =
+    inl ((λ i change at. ahead i change (omega (arith, none)) at), type)
 transition_type_of_last z l k t reached ahead (inr (some, change, at, type)) =
-    inr (k - 1, change, (at, reached (k - 1) change (omega (arith, some)) at, (λ j next above at_next. ahead j next (omega (arith, some, above)) at_next)), type)
+    inr (
+      k - 1,
+      change,
+      (
+        at,
+        reached (k - 1) change (omega (arith, some)) at,
+        (λ j next above at_next. ahead j next
+            (omega (arith, some, above)) at_next),
+      ),
+      type,
+    )
 
-module _ (z : Zone) (are : AreLeapSeconds z.leap_seconds) (last : Transition) (is_last : IsLast z.transitions last) (u l : ℤ) (leap : IsLeapTime z.leap_seconds u l) where
+module _ (z : Zone) (are : AreLeapSeconds z.leap_seconds) (last : Transition) (is_last : IsLast z.transitions last)
+    (u l : ℤ) (leap : IsLeapTime z.leap_seconds u l) where
   pub clock_before_last : (t : LocalTimeType) → l <ℤ last.unix_leap_time → IsTransitionType z l t → IsClock z u t
   clock_before_last t before type = inr (last, is_last, (l, leap, inl (before, type)))
 
@@ -46,10 +61,19 @@ module _ (z : Zone) (are : AreLeapSeconds z.leap_seconds) (last : Transition) (i
   clock_from_last t from type = inr (last, is_last, (l, leap, inr (from, type)))
 
   -- from the last transition on the clock is that of the rule
-  pub type_after_from_clock : (t : LocalTimeType) → last.unix_leap_time ≤ℤ l → IsClock z u t → IsTypeAfter z.extra_rule u t
+  pub type_after_from_clock : (t : LocalTimeType) → last.unix_leap_time ≤ℤ l → IsClock z u t
+      → IsTypeAfter z.extra_rule u t
   type_after_from_clock t from (inl (none, type)) = absurd (some_from_last z.transitions last is_last none)
   type_after_from_clock t from (inr (last', is_last', (l', leap', inl (before, type)))) =
-      absurd (omega (arith, ints, from, before, one_leap_time z.leap_seconds u l l' leap leap', ap (λ c. c.unix_leap_time) (last_unique z.transitions last last' is_last is_last')))
+      absurd (omega (
+        arith,
+        ints,
+        from,
+        before,
+        one_leap_time z.leap_seconds u l l' leap leap',
+        ap (λ c. c.unix_leap_time)
+            (last_unique z.transitions last last' is_last is_last'),
+      ))
   type_after_from_clock t from (inr (last', is_last', (l', leap', inr (from', type)))) = type
 
   pub fault_from_last : (e : TzError) → last.unix_leap_time ≤ℤ l → IsFaultAfter z.extra_rule u e → IsLookupFault z u e
@@ -58,7 +82,8 @@ module _ (z : Zone) (are : AreLeapSeconds z.leap_seconds) (last : Transition) (i
       inr (fault, (λ t clock. no_type t (type_after_from_clock t from clock)), (λ over. some over.5))
 
 -- where the instant has no leap time, a zone with transitions has no type
-pub fault_from_refused : (z : Zone) (last : Transition) → IsLast z.transitions last → (u : ℤ) → IsLeapTimeRefused z.leap_seconds u → (e : TzError) → e ≡ OutOfRange → IsLookupFault z u e
+pub fault_from_refused : (z : Zone) (last : Transition) → IsLast z.transitions last → (u : ℤ)
+    → IsLeapTimeRefused z.leap_seconds u → (e : TzError) → e ≡ OutOfRange → IsLookupFault z u e
 fault_from_refused z last is_last u refused e is = inr (is, no_type, not_over)
   where
     no_type : (t : LocalTimeType) → ¬ IsClock z u t
@@ -73,11 +98,15 @@ type_at_unique : (z : Zone) (i : ℕ) (t t' : LocalTimeType) → IsTypeAt z i t 
 type_at_unique z i t t' at at' = same_Some t t' (sym at ∙ at')
 
 -- at a leap time the transitions give one type
-pub transition_type_unique : (z : Zone) (l : ℤ) (t t' : LocalTimeType) → IsTransitionType z l t → IsTransitionType z l t' → t ≡ t'
+pub transition_type_unique : (z : Zone) (l : ℤ) (t t' : LocalTimeType) → IsTransitionType z l t
+    → IsTransitionType z l t' → t ≡ t'
 transition_type_unique z l t t' (inl (before, type)) (inl (before', type')) = type_at_unique z 0 t t' type type'
-transition_type_unique z l t t' (inl (before, type)) (inr (i, change, (at, reached, later), type')) = absurd (omega (arith, ints, before i change at, reached))
-transition_type_unique z l t t' (inr (i, change, (at, reached, later), type)) (inl (before, type')) = absurd (omega (arith, ints, before i change at, reached))
-transition_type_unique z l t t' (inr (i, change, (at, reached, later), type)) (inr (j, change', (at', reached', later'), type')) =
+transition_type_unique z l t t' (inl (before, type)) (inr (i, change, (at, reached, later), type')) =
+    absurd (omega (arith, ints, before i change at, reached))
+transition_type_unique z l t t' (inr (i, change, (at, reached, later), type)) (inl (before, type')) =
+    absurd (omega (arith, ints, before i change at, reached))
+transition_type_unique z l t t' (inr (i, change, (at, reached, later), type))
+    (inr (j, change', (at', reached', later'), type')) =
     elim (cases_lt i j) [
       | inl below ↦ absurd (omega (arith, ints, later j change' below at', reached'))
       | inr above ↦ elim (cases_lt j i) [
@@ -89,21 +118,26 @@ transition_type_unique z l t t' (inr (i, change, (at, reached, later), type)) (i
       ]
     ]
 
-type_after_unique : (rule : Option TransitionRule) (u : ℤ) (t t' : LocalTimeType) → IsTypeAfter rule u t → IsTypeAfter rule u t' → t ≡ t'
+type_after_unique : (rule : Option TransitionRule) (u : ℤ) (t t' : LocalTimeType) → IsTypeAfter rule u t
+    → IsTypeAfter rule u t' → t ≡ t'
 type_after_unique (Some rule) u t t' a b = rule_type_unique rule u t t' a b
 type_after_unique None u t t' a b = absurd a
 
-type_without_unique : (z : Zone) (rule : Option TransitionRule) (u : ℤ) (t t' : LocalTimeType) → IsTypeWithout z rule u t → IsTypeWithout z rule u t' → t ≡ t'
+type_without_unique : (z : Zone) (rule : Option TransitionRule) (u : ℤ) (t t' : LocalTimeType)
+    → IsTypeWithout z rule u t → IsTypeWithout z rule u t' → t ≡ t'
 type_without_unique z (Some rule) u t t' a b = rule_type_unique rule u t t' a b
 type_without_unique z None u t t' a b = type_at_unique z 0 t t' a b
 
-type_with_unique : (z : Zone) (last : Transition) (u : ℤ) (t t' : LocalTimeType) → IsTypeWith z last u t → IsTypeWith z last u t' → t ≡ t'
+type_with_unique : (z : Zone) (last : Transition) (u : ℤ) (t t' : LocalTimeType) → IsTypeWith z last u t
+    → IsTypeWith z last u t' → t ≡ t'
 type_with_unique z last u t t' (l, leap, side) (l', leap', side') =
     let same : l' ≡ l = one_leap_time z.leap_seconds u l' l leap' leap in
     sides side (rw same at side')
   where
-    sides : ((l <ℤ last.unix_leap_time) × IsTransitionType z l t) ⊎ ((last.unix_leap_time ≤ℤ l) × IsTypeAfter z.extra_rule u t)
-        → ((l <ℤ last.unix_leap_time) × IsTransitionType z l t') ⊎ ((last.unix_leap_time ≤ℤ l) × IsTypeAfter z.extra_rule u t') → t ≡ t'
+    sides : ((l <ℤ last.unix_leap_time) × IsTransitionType z l t)
+        ⊎ ((last.unix_leap_time ≤ℤ l) × IsTypeAfter z.extra_rule u t)
+        → ((l <ℤ last.unix_leap_time) × IsTransitionType z l t')
+        ⊎ ((last.unix_leap_time ≤ℤ l) × IsTypeAfter z.extra_rule u t') → t ≡ t'
     sides (inl (before, type)) (inl (before', type')) = transition_type_unique z l t t' type type'
     sides (inl (before, type)) (inr (from, type')) = absurd (omega (arith, ints, before, from))
     sides (inr (from, type)) (inl (before, type')) = absurd (omega (arith, ints, before, from))
@@ -112,10 +146,13 @@ type_with_unique z last u t t' (l, leap, side) (l', leap', side') =
 -- a clock has one type at an instant, whatever the zone
 pub one_type : (z : Zone) (u : ℤ) (t t' : LocalTimeType) → IsClock z u t → IsClock z u t' → t ≡ t'
 one_type z u t t' (inl (none, type)) (inl (none', type')) = type_without_unique z z.extra_rule u t t' type type'
-one_type z u t t' (inl (none, type)) (inr (last, is_last, type')) = absurd (some_from_last z.transitions last is_last none)
-one_type z u t t' (inr (last, is_last, type)) (inl (none, type')) = absurd (some_from_last z.transitions last is_last none)
+one_type z u t t' (inl (none, type)) (inr (last, is_last, type')) =
+    absurd (some_from_last z.transitions last is_last none)
+one_type z u t t' (inr (last, is_last, type)) (inl (none, type')) =
+    absurd (some_from_last z.transitions last is_last none)
 one_type z u t t' (inr (last, is_last, type)) (inr (last', is_last', type')) =
     type_with_unique z last u t t' type (rw (last_unique z.transitions last' last is_last' is_last) at type')
 
-pub clock_unique : (z : Zone) (u : ℤ) (t t' : LocalTimeType) → AreLeapSeconds z.leap_seconds → IsClock z u t → IsClock z u t' → t ≡ t'
+pub clock_unique : (z : Zone) (u : ℤ) (t t' : LocalTimeType) → AreLeapSeconds z.leap_seconds → IsClock z u t
+    → IsClock z u t' → t ≡ t'
 clock_unique z u t t' are type type' = one_type z u t t' type type'

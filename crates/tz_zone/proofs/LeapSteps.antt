@@ -1,9 +1,10 @@
--- Leap seconds as two functions of their places: when each is reached, which correction holds, and where a leap time takes effect.
+-- Leap seconds as two functions of their indexes: when each is reached, which correction holds, and where a leap time
+-- takes effect.
 use Rattle.std.proofs.Common.{◌≡◌, ℕ, zero, suc, ◌+◌, ◌-◌, ◌*◌, ◌<◌, ◌≤◌, ◌⊎◌, inl, inr, ap, arith, ℤ, pos, negsuc, neg_ℤ, ◌+ℤ◌, ◌-ℤ◌, ◌≤ℤ◌, ◌<ℤ◌}
 use Rattle.std.proofs.lemmas.Int.{ints}
 use Rattle.std.proofs.lemmas.Bool.{cases_lt}
 
--- place i has time t i, and c i is the correction before it
+-- index i has time t i, and c i is the correction before it
 pub record AreSteps (n : ℕ) (t c : ℕ → ℤ) : Type 0 where
   pub start : (neg_ℤ (pos 2147483648) ≤ℤ c 0) × (c 0 ≤ℤ pos 2147483648)
   pub first : 0 < n → pos 0 ≤ℤ t 0
@@ -11,18 +12,18 @@ pub record AreSteps (n : ℕ) (t c : ℕ → ℤ) : Type 0 where
   pub rise : (i : ℕ) → i + 1 < n → t i <ℤ t (i + 1)
   pub apart : (i : ℕ) → i + 2 < n → (t i +ℤ pos 2419199) ≤ℤ t (i + 1)
 
--- place i is reached at u
+-- index i is reached at u
 abbrev pub Reached : (ℕ → ℤ) → (ℕ → ℤ) → ℕ → ℤ → Type 0
 Reached t c i u = t i ≤ℤ (u +ℤ c i)
 
--- just the first k places are reached at u
+-- just the first k indexes are reached at u
 pub record IsCount (n : ℕ) (t c : ℕ → ℤ) (u : ℤ) (k : ℕ) : Type 0 where
   pub within : k ≤ n
   pub reached : (i : ℕ) → i < k → Reached t c i u
   pub beyond : (i : ℕ) → k ≤ i → i < n → (u +ℤ c i) <ℤ t i
 
 module _ (n : ℕ) (t c : ℕ → ℤ) (steps : AreSteps n t c) where
-  -- over some places corrections change by a second each at most
+  -- over some indexes corrections change by a second each at most
   corrections_near : (k j : ℕ) → k + j ≤ n → (neg_ℤ (pos j) ≤ℤ (c (k + j) -ℤ c k)) × ((c (k + j) -ℤ c k) ≤ℤ pos j)
   corrections_near k zero h =
       let same : k + 0 ≡ k = omega arith in
@@ -36,9 +37,9 @@ module _ (n : ℕ) (t c : ℕ → ℤ) (steps : AreSteps n t c) where
   -- and they begin in 32 bits
   pub correction_bound : (i : ℕ) → i ≤ n → (neg_ℤ (pos (i + 2147483648)) ≤ℤ c i) × (c i ≤ℤ pos (i + 2147483648))
   correction_bound i h =
-      let place : 0 + i ≡ i = omega arith in
+      let index : 0 + i ≡ i = omega arith in
       let near = corrections_near 0 i (omega arith) in
-      (omega (arith, ints, steps.start, near, ap c place), omega (arith, ints, steps.start, near, ap c place))
+      (omega (arith, ints, steps.start, near, ap c index), omega (arith, ints, steps.start, near, ap c index))
 
   pub times_rise : (i m : ℕ) → i + m < n → (t i +ℤ pos m) ≤ℤ t (i + m)
   times_rise i zero h =
@@ -60,9 +61,18 @@ module _ (n : ℕ) (t c : ℕ → ℤ) (steps : AreSteps n t c) where
   pub time_bound : (i : ℕ) → i < n → pos (2419199 * i) ≤ℤ (t i +ℤ pos 2419199)
   time_bound zero h = omega (arith, ints, steps.first h)
   time_bound (suc i) h =
-      let place : 0 + i ≡ i = omega arith in
+      let index : 0 + i ≡ i = omega arith in
       let next : i + 1 ≡ suc i = omega arith in
-      omega (arith, ints, ap t place, ap t next, times_apart 0 i (omega arith), steps.first (omega arith), steps.rise i (omega arith))
+      omega (
+        arith,
+        ints,
+        ap t index,
+        ap t next,
+        times_apart 0 i (omega arith),
+        steps.first (omega arith),
+        steps.rise i
+            (omega arith),
+      )
 
   -- what is reached later is reached after what comes before it
   reached_before : (i : ℕ) (u : ℤ) → i + 1 < n → Reached t c (i + 1) u → Reached t c i u
@@ -74,7 +84,8 @@ module _ (n : ℕ) (t c : ℕ → ℤ) (steps : AreSteps n t c) where
       omega (arith, ints, ap t same, ap c same)
   reached_down i (suc m) u h r =
       let next : i + m + 1 ≡ i + suc m = omega arith in
-      reached_down i m u (omega arith) (reached_before (i + m) u (omega arith) (omega (arith, ints, ap t next, ap c next)))
+      reached_down i m u (omega arith) (reached_before (i + m) u (omega arith)
+      (omega (arith, ints, ap t next, ap c next)))
 
   -- counts rise with the instant
   pub count_mono : (u w : ℤ) (k m : ℕ) → u ≤ℤ w → IsCount n t c u k → IsCount n t c w m → k ≤ m
@@ -84,52 +95,65 @@ module _ (n : ℕ) (t c : ℕ → ℤ) (steps : AreSteps n t c) where
         | inr more ↦ more
       ]
 
-  -- where the first place leaves the correction as it is, no leap time from there on is below its time
+  -- where the first index leaves the correction as it is, no leap time from there on is below its time
   pub leap_from_start : (w : ℤ) (m : ℕ) → 0 < m → c 1 ≡ c 0 → IsCount n t c w m → t 0 ≤ℤ (w +ℤ c m)
   leap_from_start w zero some same count = absurd (omega arith)
   leap_from_start w (suc zero) some same count = omega (arith, ints, same, count.reached 0 (omega arith))
   leap_from_start w (suc (suc m)) some same count =
       let last : suc m + 1 ≡ suc (suc m) = omega arith in
-      let place : 0 + suc m ≡ suc m = omega arith in
-      omega (arith, ints, ap c last, ap t place, count.reached (suc m) (omega arith), times_rise 0 (suc m) (omega (arith, count.within)), steps.step (suc m) (omega (arith, count.within)))
+      let index : 0 + suc m ≡ suc m = omega arith in
+      omega (
+        arith,
+        ints,
+        ap c last,
+        ap t index,
+        count.reached (suc m) (omega arith),
+        times_rise 0 (suc m)
+            (omega (arith, count.within)),
+        steps.step (suc m) (omega (arith, count.within)),
+      )
 
-  -- to the next place that is reached the corrections grow by twice the seconds at most
-  speed_to : (u w : ℤ) (k j : ℕ) → k + j < n → (u +ℤ c k) <ℤ t k → t (k + j) ≤ℤ (w +ℤ c (k + j)) → (c (k + j + 1) -ℤ c k) ≤ℤ ((w -ℤ u) +ℤ (w -ℤ u))
+  -- to the next index that is reached the corrections grow by twice the seconds at most
+  speed_to : (u w : ℤ) (k j : ℕ) → k + j < n → (u +ℤ c k) <ℤ t k → t (k + j) ≤ℤ (w +ℤ c (k + j))
+      → (c (k + j + 1) -ℤ c k) ≤ℤ ((w -ℤ u) +ℤ (w -ℤ u))
   speed_to u w k zero h beyond reached =
       let same : k + 0 ≡ k = omega arith in
       let next : k + 0 + 1 ≡ k + 1 = omega arith in
       omega (arith, ints, ap t same, ap c same, ap c next, steps.step k (omega arith))
   speed_to u w k (suc j) h beyond reached =
-      let place : k + j + 1 ≡ k + suc j = omega arith in
+      let index : k + j + 1 ≡ k + suc j = omega arith in
       let next : k + suc j + 1 ≡ k + j + 1 + 1 = omega arith in
       let grown = corrections_near k j (omega arith) in
       let apart = times_apart k j (omega arith) in
       let rise = steps.rise (k + j) (omega arith) in
       let step = steps.step (k + j) (omega arith) in
       let last = steps.step (k + j + 1) (omega arith) in
-      omega (arith, ints, ap t place, ap c place, ap c next)
+      omega (arith, ints, ap t index, ap c index, ap c next)
 
   -- the leap time rises with the instant, or stays for one second, and grows by no more than three times the seconds
-  pub leap_growth : (u w : ℤ) (k m : ℕ) → u ≤ℤ w → IsCount n t c u k → IsCount n t c w m → ((u +ℤ c k) ≤ℤ (w +ℤ c m)) × ((c m -ℤ c k) ≤ℤ ((w -ℤ u) +ℤ (w -ℤ u)))
+  pub leap_growth : (u w : ℤ) (k m : ℕ) → u ≤ℤ w → IsCount n t c u k → IsCount n t c w m → ((u +ℤ c k) ≤ℤ (w +ℤ c m))
+      × ((c m -ℤ c k) ≤ℤ ((w -ℤ u) +ℤ (w -ℤ u)))
   leap_growth u w k m h a b = by_counts k m (count_mono u w k m h a b) a b
     where
       at_same : (k m : ℕ) → k ≡ m → ((u +ℤ c k) ≤ℤ (w +ℤ c m)) × ((c m -ℤ c k) ≤ℤ ((w -ℤ u) +ℤ (w -ℤ u)))
       at_same k m same = (omega (arith, ints, ap c same), omega (arith, ints, ap c same))
 
-      by_counts : (k m : ℕ) → k ≤ m → IsCount n t c u k → IsCount n t c w m → ((u +ℤ c k) ≤ℤ (w +ℤ c m)) × ((c m -ℤ c k) ≤ℤ ((w -ℤ u) +ℤ (w -ℤ u)))
+      by_counts : (k m : ℕ) → k ≤ m → IsCount n t c u k → IsCount n t c w m → ((u +ℤ c k) ≤ℤ (w +ℤ c m))
+          × ((c m -ℤ c k) ≤ℤ ((w -ℤ u) +ℤ (w -ℤ u)))
       by_counts k zero more a b = at_same k zero (omega arith)
       by_counts k (suc m) more a b =
           elim (cases_lt k (suc m)) [
             | inl less ↦
                 let next : m + 1 ≡ suc m = omega arith in
                 let last : k + (m - k) + 1 ≡ suc m = omega arith in
-                let place : k + (m - k) ≡ m = omega arith in
+                let index : k + (m - k) ≡ m = omega arith in
                 let reached = b.reached m (omega arith) in
                 let beyond = a.beyond k (omega arith) (omega (arith, b.within)) in
                 let rise = times_rise k (m - k) (omega (arith, b.within)) in
                 let step = steps.step m (omega (arith, b.within)) in
-                let grown = speed_to u w k (m - k) (omega (arith, b.within)) beyond (omega (arith, ints, ap t place, ap c place)) in
-                (omega (arith, ints, ap c next, ap t place), omega (arith, ints, ap c last))
+                let grown = speed_to u w k (m - k) (omega (arith, b.within)) beyond
+                (omega (arith, ints, ap t index, ap c index)) in
+                (omega (arith, ints, ap c next, ap t index), omega (arith, ints, ap c last))
             | inr more' ↦ at_same k (suc m) (omega arith)
           ]
 
@@ -152,20 +176,30 @@ module _ (n : ℕ) (t c : ℕ → ℤ) (steps : AreSteps n t c) where
       elim (cases_lt m k) [
         | inl less ↦
             let last : suc (k - 1) ≡ k = omega arith in
-            let place : m + (k - 1 - m) ≡ k - 1 = omega arith in
-            let down = reached_down n t c steps m (k - 1 - m) u (omega (arith, times.within)) (rw place (wide.reached (k - 1) last)) in
+            let index : m + (k - 1 - m) ≡ k - 1 = omega arith in
+            let down = reached_down n t c steps m (k - 1 - m) u (omega (arith, times.within))
+            (rw index (wide.reached (k - 1) last)) in
             absurd (omega (arith, ints, down, count.beyond m (omega arith) (omega (arith, times.within))))
         | inr more ↦ more
       ]
 
-  -- where a place whose time is after v is reached, leap time v is
+  -- where an index whose time is after v is reached, leap time v is
   past_time : (v w : ℤ) (k m : ℕ) → IsTimeCount n t v k → k < m → IsCount n t c w m → v ≤ℤ (w +ℤ c m)
   past_time v w k m times less count =
       let last : m - 1 + 1 ≡ m = omega arith in
-      omega (arith, ints, ap c last, times.later (m - 1) (omega arith) (omega (arith, count.within)), count.reached (m - 1) (omega arith), steps.step (m - 1) (omega (arith, count.within)))
+      omega (
+        arith,
+        ints,
+        ap c last,
+        times.later (m - 1) (omega arith) (omega (arith, count.within)),
+        count.reached (m - 1)
+            (omega arith),
+        steps.step (m - 1) (omega (arith, count.within)),
+      )
 
   -- at that instant leap time v is reached
-  pub effect_reached : (v u : ℤ) (k m : ℕ) → IsTimeCount n t v k → IsEffectByCount t c v k u → IsCount n t c u m → v ≤ℤ (u +ℤ c m)
+  pub effect_reached : (v u : ℤ) (k m : ℕ) → IsTimeCount n t v k → IsEffectByCount t c v k u → IsCount n t c u m
+      → v ≤ℤ (u +ℤ c m)
   effect_reached v u k m times wide count =
       elim (cases_lt k m) [
         | inl less ↦ past_time v u k m times less count
@@ -175,13 +209,19 @@ module _ (n : ℕ) (t c : ℕ → ℤ) (steps : AreSteps n t c) where
       ]
 
   -- before that instant it is not
-  pub effect_least : (v u w : ℤ) (k m : ℕ) → IsTimeCount n t v k → IsEffectByCount t c v k u → w <ℤ u → IsCount n t c w m → (w +ℤ c m) <ℤ v
+  pub effect_least : (v u w : ℤ) (k m : ℕ) → IsTimeCount n t v k → IsEffectByCount t c v k u → w <ℤ u
+      → IsCount n t c w m → (w +ℤ c m) <ℤ v
   effect_least v u w k m times wide before count =
       elim (cases_lt m k) [
         | inl less ↦ omega (arith, ints, count.beyond m (omega arith) (omega (arith, times.within)), times.up_to m less)
         | inr more ↦ elim wide.tight [
           | inl e ↦ elim (cases_lt k m) [
-            | inl after ↦ absurd (omega (arith, ints, count.reached k after, times.later k (omega arith) (omega (arith, count.within))))
+            | inl after ↦ absurd (omega (
+              arith,
+              ints,
+              count.reached k after,
+              times.later k (omega arith) (omega (arith, count.within)),
+            ))
             | inr not_after ↦ let same : m ≡ k = omega arith in omega (arith, ints, ap c same)
           ]
           | inr (i, last, e) ↦ absurd (omega (arith, ints, count.reached i (omega arith)))

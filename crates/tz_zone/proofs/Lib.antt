@@ -17,16 +17,15 @@ pub mod ShownTypes
 pub mod NearestChanges
 pub mod ChangeTurns
 pub mod InstantsWithLeapTime
-pub mod Places
+pub mod Positions
 pub mod WindowTypes
 pub mod SegmentEnds
 pub mod LeapReached
-pub mod SegmentPlaces
+pub mod SegmentPositions
 pub mod SegmentTypes
 pub mod TzFileLaws
 pub mod TzNames
 pub mod TzTables
-pub mod TzOrder
 pub mod TextRuns
 pub mod TextNumbers
 pub mod QuestionMarkExits
@@ -39,6 +38,6 @@ pub mod TzFrames
 pub mod Directories
 pub mod SettingsAnswers
 pub mod ChangeSpans
-pub mod PlaceRuns
+pub mod PositionRuns
 pub mod ClockStages
 pub mod RuleChanges

@@ -17,8 +17,10 @@ same_change c d time before after =
 pub one_change : (z : Zone) (c d : Change) → IsChange z c → IsChange z d → c.unix_time ≡ d.unix_time → c ≡ d
 one_change z c d is is' same =
     same_change c d same
-    (one_type z (c.unix_time -ℤ pos 1) c.before d.before is.before_is (subst (λ (u : ℤ). IsClock z (u -ℤ pos 1) d.before) (sym same) is'.before_is))
-    (one_type z c.unix_time c.after d.after is.after_is (subst (λ (u : ℤ). IsClock z u d.after) (sym same) is'.after_is))
+    (one_type z (c.unix_time -ℤ pos 1) c.before d.before is.before_is
+    (subst (λ (u : ℤ). IsClock z (u -ℤ pos 1) d.before) (sym same) is'.before_is))
+    (one_type z c.unix_time c.after d.after is.after_is
+    (subst (λ (u : ℤ). IsClock z u d.after) (sym same) is'.after_is))
 
 pub one_following : (z : Zone) (u : ℤ) (c d : Change) → IsFollowing z u c → IsFollowing z u d → c ≡ d
 one_following z u c d first second =

@@ -17,10 +17,12 @@ use Rattle.tz_zone.specs.Offsets.{IsOffsetOfTypes, IsOffsetOfRule, IsOffset, Are
 
 -- the less of two numbers is one of them, and so is the greater
 pub int_min_either : (x y : ℤ) → (int_min x y ≡ x) ⊎ (int_min x y ≡ y)
-int_min_either x y = elim (int_lt y x) as (λ t. (cond t y x ≡ x) ⊎ (cond t y x ≡ y)) [ true ↦ inr refl | false ↦ inl refl ]
+int_min_either x y = elim (int_lt y x) as (λ t. (cond t y x ≡ x) ⊎ (cond t y x ≡ y))
+    [ true ↦ inr refl | false ↦ inl refl ]
 
 pub int_max_either : (x y : ℤ) → (int_max x y ≡ x) ⊎ (int_max x y ≡ y)
-int_max_either x y = elim (int_lt y x) as (λ t. (cond t x y ≡ x) ⊎ (cond t x y ≡ y)) [ true ↦ inl refl | false ↦ inr refl ]
+int_max_either x y = elim (int_lt y x) as (λ t. (cond t x y ≡ x) ⊎ (cond t x y ≡ y))
+    [ true ↦ inl refl | false ↦ inr refl ]
 
 -- two numbers are equal or not
 decide_equal : (x y : ℤ) → (x ≡ y) ⊎ (x ≢ y)
@@ -40,8 +42,10 @@ decide_of_types (t ∷ types) o = elim (decide_equal o t.ut_offset) [
   ]
 ]
   where
-    neither : o ≢ t.ut_offset → ¬ IsOffsetOfTypes types o → (i : ℕ) (found : LocalTimeType) → slice_get (t ∷ types) i ≡ Some found → ¬ (o ≡ found.ut_offset)
-    neither other none zero found at is = other (is ∙ sym (ap (λ (x : LocalTimeType). x.ut_offset) (same_Some t found at)))
+    neither : o ≢ t.ut_offset → ¬ IsOffsetOfTypes types o → (i : ℕ) (found : LocalTimeType)
+        → slice_get (t ∷ types) i ≡ Some found → ¬ (o ≡ found.ut_offset)
+    neither other none zero found at is = other
+        (is ∙ sym (ap (λ (x : LocalTimeType). x.ut_offset) (same_Some t found at)))
     neither other none (suc i) found at is = none (i, found, at, is)
 
 -- of a rule
@@ -49,11 +53,13 @@ decide_of_rule : (rule : TransitionRule) (o : ℤ) → IsOffsetOfRule rule o ⊎
 decide_of_rule (Fixed fixed) o = decide_equal o fixed.ut_offset
 decide_of_rule (Alternate r) o = elim (decide_equal o r.std.ut_offset) [
   | inl std ↦ inl (inl std)
-  | inr other ↦ elim (decide_equal o r.dst.ut_offset) [ inl dst ↦ inl (inr dst) | inr neither ↦ inr (λ is. elim is [ inl std ↦ other std | inr dst ↦ neither dst ]) ]
+  | inr other ↦ elim (decide_equal o r.dst.ut_offset)
+      [ inl dst ↦ inl (inr dst) | inr neither ↦ inr (λ is. elim is [ inl std ↦ other std | inr dst ↦ neither dst ]) ]
 ]
 
 -- of a zone
-decide_of_zone : (types : List LocalTimeType) (extra_rule : Option TransitionRule) (o : ℤ) → IsOffset types extra_rule o ⊎ ¬ IsOffset types extra_rule o
+decide_of_zone : (types : List LocalTimeType) (extra_rule : Option TransitionRule) (o : ℤ) → IsOffset types extra_rule o
+    ⊎ ¬ IsOffset types extra_rule o
 decide_of_zone types None o = elim (decide_of_types types o) [
   | inl is ↦ inl (inl is)
   | inr none ↦ inr (λ is. elim is [ inl of_type ↦ none of_type | inr of_rule ↦ none-some of_rule.0 of_rule.1 ])
@@ -64,17 +70,21 @@ decide_of_zone types (Some rule) o = elim (decide_of_types types o) [
     | inl is ↦ inl (inr (rule, refl, is))
     | inr neither ↦ inr (λ is. elim is [
       | inl of_type ↦ none of_type
-      | inr of_rule ↦ neither (subst (λ (r : TransitionRule). IsOffsetOfRule r o) (sym (same_Some rule of_rule.0 of_rule.1)) of_rule.2)
+      | inr of_rule ↦ neither (subst (λ (r : TransitionRule). IsOffsetOfRule r o)
+          (sym (same_Some rule of_rule.0 of_rule.1)) of_rule.2)
     ])
   ]
 ]
 
 -- what is known to be one of a zone's offsets is found among them
-found_offset : (types : List LocalTimeType) (extra_rule : Option TransitionRule) (o : ℤ) → ∥ IsOffset types extra_rule o ∥₁ → IsOffset types extra_rule o
-found_offset types extra_rule o known = elim (decide_of_zone types extra_rule o) [ inl is ↦ is | inr none ↦ absurd (∥∥₁_elim known (hlevel props) none) ]
+found_offset : (types : List LocalTimeType) (extra_rule : Option TransitionRule) (o : ℤ)
+    → ∥ IsOffset types extra_rule o ∥₁ → IsOffset types extra_rule o
+found_offset types extra_rule o known = elim (decide_of_zone types extra_rule o)
+    [ inl is ↦ is | inr none ↦ absurd (∥∥₁_elim known (hlevel props) none) ]
 
 -- and so are the least and the greatest
-pub found_end_offsets : (z : Zone) (least greatest : ℤ) → ∥ AreEndOffsets z least greatest ∥₁ → AreEndOffsets z least greatest
+pub found_end_offsets : (z : Zone) (least greatest : ℤ) → ∥ AreEndOffsets z least greatest ∥₁
+    → AreEndOffsets z least greatest
 found_end_offsets z least greatest known = (
   (
     found_offset z.types z.extra_rule least (∥∥₁_map known (λ ends. ends.0.0)),
@@ -93,9 +103,14 @@ ends_of_type t = (
   (inl (0, t, refl, refl), λ o is. omega (arith, ints, one o is)),
 )
   where
-    of_list : (o : ℤ) (i : ℕ) (found : LocalTimeType) → slice_get (t ∷ []) i ≡ Some found → o ≡ found.ut_offset → o ≡ t.ut_offset
+    of_list : (o : ℤ) (i : ℕ) (found : LocalTimeType) → slice_get (t ∷ []) i ≡ Some found → o ≡ found.ut_offset
+        → o ≡ t.ut_offset
     of_list o zero found at is = is ∙ sym (ap (λ (x : LocalTimeType). x.ut_offset) (same_Some t found at))
     of_list o (suc i) found at is = absurd (none-some found at)
 
     one : (o : ℤ) → IsOffset (t ∷ []) None o → o ≡ t.ut_offset
-    one o is = elim is [ inl of_type ↦ of_list o of_type.0 of_type.1 of_type.2 of_type.3 | inr of_rule ↦ absurd (none-some of_rule.0 of_rule.1) ]
+    one o is = elim is [
+      | inl of_type ↦ of_list o of_type.0 of_type.1 of_type.2 of_type.3
+      | inr of_rule ↦
+          absurd (none-some of_rule.0 of_rule.1)
+    ]

@@ -14,17 +14,28 @@ exponent_less m b n low high = elim (cases_lt m b) [
 -- the exponents of two powers of two have their order
 pub exponent_up_to : (f m : ℕ) → 2 ^ f ≤ 2 ^ m → f ≤ m
 exponent_up_to f m order = elim (cases_lt m f) [
-  | inl less ↦ absurd (omega (arith, order, pow-suc 2 m, pow_mono {i = 0} {j = m} (omega arith), pow_mono {i = suc m} {j = f} (omega (arith, less))))
+  | inl less ↦ absurd (omega (
+    arith,
+    order,
+    pow-suc 2 m,
+    pow_mono {i = 0} {j = m} (omega arith),
+    pow_mono {i = suc m} {j =
+        f} (omega (arith, less)),
+  ))
   | inr up_to ↦ up_to
 ]
 
 -- half a power of two that is not another one up to it is one, and not less than that
-pub half_power : (count m f : ℕ) → count ≡ 2 ^ m → count ≢ 2 ^ f → f ≤ m → (k : ℕ) × (m ≡ suc k) × (count / 2 ≡ 2 ^ k) × (count ≡ 2 ^ k + 2 ^ k) × (f ≤ k)
-half_power count zero f is differ order = let none : 0 ≡ f = omega (arith, order) in absurd (differ (is ∙ ap (λ (n : ℕ). 2 ^ n) none))
-half_power count (suc k) f is differ order = (k, refl, omega (arith, is, pow-suc 2 k), omega (arith, is, pow-suc 2 k), within)
+pub half_power : (count m f : ℕ) → count ≡ 2 ^ m → count ≢ 2 ^ f → f ≤ m → (k : ℕ) × (m ≡ suc k) × (count / 2 ≡ 2 ^ k)
+    × (count ≡ 2 ^ k + 2 ^ k) × (f ≤ k)
+half_power count zero f is differ order = let none : 0 ≡ f = omega (arith, order) in
+    absurd (differ (is ∙ ap (λ (n : ℕ). 2 ^ n) none))
+half_power count (suc k) f is differ order =
+    (k, refl, omega (arith, is, pow-suc 2 k), omega (arith, is, pow-suc 2 k), within)
   where
     within : f ≤ k
     within = elim (cases_lt k f) [
-      | inl less ↦ let same : suc k ≡ f = omega (arith, less, order) in absurd (differ (is ∙ ap (λ (n : ℕ). 2 ^ n) same))
+      | inl less ↦ let same : suc k ≡ f = omega (arith, less, order) in
+          absurd (differ (is ∙ ap (λ (n : ℕ). 2 ^ n) same))
       | inr more ↦ more
     ]

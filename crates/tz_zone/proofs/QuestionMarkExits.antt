@@ -3,5 +3,6 @@ use Rattle.std.proofs.Common.{◌≡◌, Result}
 use Rattle.std.proofs.lemmas.Result.{err_from_is_err_and}
 use Rattle.std.specs.Result.{IsErrAnd, MatchResult}
 
-pub exit : {T E : Type 0} (ok : T → Type 0) (err : E → Type 0) (f : E) (r : Result T E) → IsErrAnd r (λ e. e ≡ f) → err f → MatchResult r ok err
+pub exit : {T E : Type 0} (ok : T → Type 0) (err : E → Type 0) (f : E) (r : Result T E) → IsErrAnd r (λ e. e ≡ f)
+    → err f → MatchResult r ok err
 exit ok err f r is holds = let p = err_from_is_err_and r is in rw (p.1, p.2) holds

@@ -3,7 +3,8 @@ use Rattle.std.proofs.Common.{◌≡◌, ◌++◌, ℕ, List, Option, Some, None
 use Rattle.std.specs.Io.KnownBytes.{Consumes}
 use Rattle.std.proofs.lemmas.List.{append_assoc}
 
-pub consumes_more : (old mid new : Option (List ℕ)) (xs ys zs : List ℕ) → Consumes old mid xs → Consumes mid new ys → zs ≡ xs ++ ys → Consumes old new zs
+pub consumes_more : (old mid new : Option (List ℕ)) (xs ys zs : List ℕ) → Consumes old mid xs → Consumes mid new ys
+    → zs ≡ xs ++ ys → Consumes old new zs
 consumes_more None mid new xs ys zs so_far next is = tt
 consumes_more (Some a) None new xs ys zs so_far next is = absurd so_far
 consumes_more (Some a) (Some b) None xs ys zs so_far next is = absurd next

@@ -13,19 +13,24 @@ abbrev pub HoldsOfRule : (LocalTimeType → Type 0) → TransitionRule → Type 
 HoldsOfRule P (Fixed fixed) = P fixed
 HoldsOfRule P (Alternate r) = P r.std × P r.dst
 
-pub of_rule_type : (P : LocalTimeType → Type 0) (rule : TransitionRule) → HoldsOfRule P rule → (u : ℤ) (t : LocalTimeType) → IsRuleType rule u t → P t
+pub of_rule_type : (P : LocalTimeType → Type 0) (rule : TransitionRule) → HoldsOfRule P rule
+    → (u : ℤ) (t : LocalTimeType) → IsRuleType rule u t → P t
 unfolding IsRuleType
 of_rule_type P (Fixed fixed) holds u t is = subst P (sym is) holds
 of_rule_type P (Alternate r) holds u t (years, inl (day, is)) = subst P (sym is) holds.1
 of_rule_type P (Alternate r) holds u t (years, inr (night, is)) = subst P (sym is) holds.0
 
-module _ (P : LocalTimeType → Type 0) (z : Zone) (of_list : (i : ℕ) (t : LocalTimeType) → slice_get z.types i ≡ Some t → P t)
-    (of_rule : (rule : TransitionRule) → z.extra_rule ≡ Some rule → (u : ℤ) (t : LocalTimeType) → IsRuleType rule u t → P t) where
-  of_type_without : (extra : Option TransitionRule) → z.extra_rule ≡ extra → (u : ℤ) (t : LocalTimeType) → IsTypeWithout z extra u t → P t
+module _ (P : LocalTimeType → Type 0) (z : Zone) (of_list : (i : ℕ) (t : LocalTimeType) → slice_get z.types i ≡ Some t
+    → P t)
+    (of_rule : (rule : TransitionRule) → z.extra_rule ≡ Some rule → (u : ℤ) (t : LocalTimeType) → IsRuleType rule u t
+    → P t) where
+  of_type_without : (extra : Option TransitionRule) → z.extra_rule ≡ extra → (u : ℤ) (t : LocalTimeType)
+      → IsTypeWithout z extra u t → P t
   of_type_without (Some rule) is u t type = of_rule rule is u t type
   of_type_without None is u t type = of_list 0 t type
 
-  of_type_after : (extra : Option TransitionRule) → z.extra_rule ≡ extra → (u : ℤ) (t : LocalTimeType) → IsTypeAfter extra u t → P t
+  of_type_after : (extra : Option TransitionRule) → z.extra_rule ≡ extra → (u : ℤ) (t : LocalTimeType)
+      → IsTypeAfter extra u t → P t
   of_type_after (Some rule) is u t type = of_rule rule is u t type
   of_type_after None is u t type = absurd type
 

@@ -10,12 +10,13 @@ use Rattle.tz_rule.specs.MonthWeek.{month_week}
 use Rattle.tz_rule.specs.declared.timezone.rule_day.RuleDay.{RuleDay}
 use Rattle.tz_rule.specs.declared.timezone.rule_day.RuleDay.TheVariants.{Julian1WithoutLeap, Julian0WithLeap, MonthWeekDay}
 use Rattle.tz_zone.specs.Bytes.{capital_j, capital_m, comma, dot}
-use Rattle.tz_zone.specs.declared.parse.tz_string.start_and_end.DayAndTime.{DayAndTime}
-use Rattle.tz_zone.specs.declared.parse.tz_string.time.WrittenTime.{WrittenTime}
+use Rattle.tz_zone.specs.declared.parse.tz_string.day_time.DayAndTime.{DayAndTime}
+use Rattle.tz_zone.specs.declared.parse.tz_string.day_time.WrittenTime.{WrittenTime}
 use Rattle.tz_zone.specs.TzText.{IsRun, IsNumber, IsName, IsPart, IsHms, IsSign, IsSignedTime, IsDayTimeSign, IsDayTime, IsMonthWeekText, IsDay, IsTimeOfRule, IsRuleText, IsDaylightOffset, IsNameAndOffset, AlternateText, IsAlternateText}
 
 abbrev pub IsOne : {A : Type 0} → (List ℕ → A → List ℕ → Type 0) → Type 0
-IsOne {A} reads = (text : List ℕ) (x y : A) (rest more : List ℕ) → reads text x rest → reads text y more → (x ≡ y) × (rest ≡ more)
+IsOne {A} reads = (text : List ℕ) (x y : A) (rest more : List ℕ) → reads text x rest → reads text y more
+    → (x ≡ y) × (rest ≡ more)
 
 -- the byte at the front, and the bytes after it, are those of the text
 pub same_byte : {a b : ℕ} {text xs ys : List ℕ} → text ≡ a ∷ xs → text ≡ b ∷ ys → a ≡ b
@@ -27,7 +28,8 @@ same_rest e f = cc
 pub same_tail : {a b : ℕ} {xs ys : List ℕ} → a ∷ xs ≡ b ∷ ys → xs ≡ ys
 same_tail e = cc
 
-pub run_is_one : {test : ℕ → Bool} {text run other rest more : List ℕ} → IsRun test text run rest → IsRun test text other more → (run ≡ other) × (rest ≡ more)
+pub run_is_one : {test : ℕ → Bool} {text run other rest more : List ℕ} → IsRun test text run rest
+    → IsRun test text other more → (run ≡ other) × (rest ≡ more)
 run_is_one {run = run} {other = other} {rest = rest} {more = more} a b =
     let same : run ≡ other = a.longest ∙ sym b.longest in
     (same, append_cancel_left run rest more (sym a.parts ∙ b.parts ∙ ap (λ x. x ++ more) (sym same)))
@@ -38,15 +40,18 @@ number_is_one text n m rest more a b =
     (a.value ∙ ap (digits_value 10) same.0 ∙ sym b.value, same.1)
 
 -- two numbers after the same byte
-pub number_after_is_one : {b : ℕ} {text xs ys : List ℕ} (n m : ℕ) (rest more : List ℕ) → text ≡ b ∷ xs → text ≡ b ∷ ys → IsNumber xs n rest → IsNumber ys m more → (n ≡ m) × (rest ≡ more)
+pub number_after_is_one : {b : ℕ} {text xs ys : List ℕ} (n m : ℕ) (rest more : List ℕ) → text ≡ b ∷ xs → text ≡ b ∷ ys
+    → IsNumber xs n rest → IsNumber ys m more → (n ≡ m) × (rest ≡ more)
 number_after_is_one {xs = xs} {ys = ys} n m rest more e f a b =
     number_is_one ys n m rest more (rw (same_rest e f) at a) b
 
-begins_with_digit : (digit : Bool) (b : ℕ) (bs run : List ℕ) → is_ascii_digit b ≡ digit → run ≡ cond digit (b ∷ bs) [] → run ≢ [] → is_ascii_digit b ≡ true
+begins_with_digit : (digit : Bool) (b : ℕ) (bs run : List ℕ) → is_ascii_digit b ≡ digit → run ≡ cond digit (b ∷ bs) []
+    → run ≢ [] → is_ascii_digit b ≡ true
 begins_with_digit true b bs run e longest some = e
 begins_with_digit false b bs run e longest some = absurd (some longest)
 
-pub number_begins : (text : List ℕ) (b : ℕ) (bs : List ℕ) (n : ℕ) (rest : List ℕ) → text ≡ b ∷ bs → IsNumber text n rest → is_ascii_digit b ≡ true
+pub number_begins : (text : List ℕ) (b : ℕ) (bs : List ℕ) (n : ℕ) (rest : List ℕ) → text ≡ b ∷ bs → IsNumber text n rest
+    → is_ascii_digit b ≡ true
 number_begins text b bs n rest e number =
     begins_with_digit (is_ascii_digit b) b (take_while is_ascii_digit bs) number.digits refl
     (number.run.longest ∙ ap (take_while is_ascii_digit) e ∙ take_while-cons is_ascii_digit b bs) number.some
@@ -83,7 +88,8 @@ day_time_sign_is_one false = λ text x y rest more a b. (a.0 ∙ sym b.0, a.1 �
 time_of : Bool → ℕ → ℕ → ℕ → WrittenTime
 time_of minus hours minutes seconds = record { minus = minus; hours = hours; minutes = minutes; seconds = seconds }
 
-pub same_time : (t u : WrittenTime) → t.minus ≡ u.minus → t.hours ≡ u.hours → t.minutes ≡ u.minutes → t.seconds ≡ u.seconds → t ≡ u
+pub same_time : (t u : WrittenTime) → t.minus ≡ u.minus → t.hours ≡ u.hours → t.minutes ≡ u.minutes
+    → t.seconds ≡ u.seconds → t ≡ u
 unfolding time_of
 same_time t u a b c d =
     let same : time_of t.minus t.hours t.minutes t.seconds ≡ time_of u.minus u.hours u.minutes u.seconds = cc in same
@@ -93,8 +99,10 @@ pub times_are_one : (text : List ℕ) (t u : WrittenTime) (rest more : List ℕ)
     → (t.hours ≡ u.hours) × (t.minutes ≡ u.minutes) × (t.seconds ≡ u.seconds) × (rest ≡ more)
 times_are_one text t u rest more a b =
     let hours = number_is_one text t.hours u.hours a.after_hours b.after_hours a.hours_are b.hours_are in
-    let minutes = part_is_one b.after_hours t.minutes u.minutes a.after_minutes b.after_minutes (rw hours.1 at a.minutes_are) b.minutes_are in
-    let seconds = part_is_one b.after_minutes t.seconds u.seconds rest more (rw minutes.1 at a.seconds_are) b.seconds_are in
+    let minutes = part_is_one b.after_hours t.minutes u.minutes a.after_minutes b.after_minutes
+    (rw hours.1 at a.minutes_are) b.minutes_are in
+    let seconds = part_is_one b.after_minutes t.seconds u.seconds rest more (rw minutes.1 at a.seconds_are)
+    b.seconds_are in
     (hours.0, minutes.0, seconds.0, seconds.1)
 
 pub hms_is_one : (text : List ℕ) (t u : WrittenTime) (rest more : List ℕ) → t.minus ≡ u.minus → IsHms text t rest
@@ -104,8 +112,10 @@ hms_is_one text t u rest more sign a b =
     (same_time t u sign one.0 one.1 one.2, one.3)
 
 -- a sign, and the time after it
-pub after_sign_is_one : (text : List ℕ) (signs : List ℕ → Bool → List ℕ → Type 0) → IsOne signs → (t u : WrittenTime) (rest more : List ℕ)
-    → (unsigned : List ℕ) × signs text t.minus unsigned × IsHms unsigned t rest → (unsigned : List ℕ) × signs text u.minus unsigned × IsHms unsigned u more → (t ≡ u) × (rest ≡ more)
+pub after_sign_is_one : (text : List ℕ) (signs : List ℕ → Bool → List ℕ → Type 0) → IsOne signs
+    → (t u : WrittenTime) (rest more : List ℕ)
+    → (unsigned : List ℕ) × signs text t.minus unsigned × IsHms unsigned t rest
+    → (unsigned : List ℕ) × signs text u.minus unsigned × IsHms unsigned u more → (t ≡ u) × (rest ≡ more)
 after_sign_is_one text signs one t u rest more a b =
     let sign = one text t.minus u.minus a.0 b.0 a.1 b.1 in
     hms_is_one b.0 t u rest more sign.0 (rw sign.1 at a.2) b.2
@@ -114,7 +124,8 @@ pub signed_time_is_one : IsOne IsSignedTime
 signed_time_is_one text t u rest more a b = after_sign_is_one text IsSign sign_is_one t u rest more a b
 
 pub day_time_is_one : (extended : Bool) → IsOne (IsDayTime extended)
-day_time_is_one extended text t u rest more a b = after_sign_is_one text (IsDayTimeSign extended) (day_time_sign_is_one extended) t u rest more a b
+day_time_is_one extended text t u rest more a b =
+    after_sign_is_one text (IsDayTimeSign extended) (day_time_sign_is_one extended) t u rest more a b
 
 pub month_week_is_one : IsOne IsMonthWeekText
 month_week_is_one text d e rest more a b =
@@ -122,25 +133,30 @@ month_week_is_one text d e rest more a b =
     let week = number_is_one b.0 d.week e.week (dot ∷ a.1) (dot ∷ b.1) (rw (same_tail month.1) at a.3) b.3 in
     let day = number_is_one b.1 d.week_day e.week_day rest more (rw (same_tail week.1) at a.4) b.4 in
     let same : month_week d.month d.week d.week_day ≡ month_week e.month e.week e.week_day =
-    ap (λ x. month_week x d.week d.week_day) month.0 ∙ ap (λ x. month_week e.month x d.week_day) week.0 ∙ ap (λ x. month_week e.month e.week x) day.0
+    ap (λ x. month_week x d.week d.week_day) month.0 ∙ ap (λ x. month_week e.month x d.week_day) week.0
+    ∙ ap (λ x. month_week e.month e.week x) day.0
     in (same, day.1)
 
-pub no_digit : {P : Type 0} (text : List ℕ) (b : ℕ) (bs : List ℕ) (n : ℕ) (rest : List ℕ) → is_ascii_digit b ≡ false → text ≡ b ∷ bs → IsNumber text n rest → P
+pub no_digit : {P : Type 0} (text : List ℕ) (b : ℕ) (bs : List ℕ) (n : ℕ) (rest : List ℕ) → is_ascii_digit b ≡ false
+    → text ≡ b ∷ bs → IsNumber text n rest → P
 no_digit text b bs n rest none e number = absurd (false≢true (sym none ∙ number_begins text b bs n rest e number))
 
 pub day_is_one : IsOne IsDay
 day_is_one text (Julian1WithoutLeap n) (Julian1WithoutLeap m) rest more a b =
     let same = number_after_is_one n m rest more a.1 b.1 a.2 b.2 in (ap Julian1WithoutLeap same.0, same.1)
 day_is_one text (Julian1WithoutLeap n) (Julian0WithLeap m) rest more a b = no_digit text capital_j a.0 m more refl a.1 b
-day_is_one text (Julian1WithoutLeap n) (MonthWeekDay d) rest more a b = let clash = same_byte a.1 b.1 in absurd (omega arith)
+day_is_one text (Julian1WithoutLeap n) (MonthWeekDay d) rest more a b = let clash = same_byte a.1 b.1 in
+    absurd (omega arith)
 day_is_one text (Julian0WithLeap n) (Julian1WithoutLeap m) rest more a b = no_digit text capital_j b.0 n rest refl b.1 a
 day_is_one text (Julian0WithLeap n) (Julian0WithLeap m) rest more a b =
     let same = number_is_one text n m rest more a b in (ap Julian0WithLeap same.0, same.1)
 day_is_one text (Julian0WithLeap n) (MonthWeekDay d) rest more a b = no_digit text capital_m b.0 n rest refl b.1 a
-day_is_one text (MonthWeekDay d) (Julian1WithoutLeap m) rest more a b = let clash = same_byte a.1 b.1 in absurd (omega arith)
+day_is_one text (MonthWeekDay d) (Julian1WithoutLeap m) rest more a b = let clash = same_byte a.1 b.1 in
+    absurd (omega arith)
 day_is_one text (MonthWeekDay d) (Julian0WithLeap m) rest more a b = no_digit text capital_m a.0 m more refl a.1 b
 day_is_one text (MonthWeekDay d) (MonthWeekDay e) rest more a b =
-    let same = month_week_is_one b.0 d e rest more (rw (same_rest a.1 b.1) at a.2) b.2 in (ap MonthWeekDay same.0, same.1)
+    let same = month_week_is_one b.0 d e rest more (rw (same_rest a.1 b.1) at a.2) b.2 in
+    (ap MonthWeekDay same.0, same.1)
 
 pub time_of_rule_is_one : (extended : Bool) → IsOne (IsTimeOfRule extended)
 time_of_rule_is_one extended text t u rest more a b = elim a [
@@ -180,19 +196,34 @@ daylight_offset_is_one text (Some t) (Some u) rest more a b =
 -- what a text says, of its parts
 abbrev text_of : List ℕ → WrittenTime → List ℕ → Option WrittenTime → DayAndTime → DayAndTime → AlternateText
 text_of std_name std_offset dst_name dst_offset start end =
-    record { std_name = std_name; std_offset = std_offset; dst_name = dst_name; dst_offset = dst_offset; start = start; end = end }
+    record {
+      std_name = std_name;
+      std_offset = std_offset;
+      dst_name = dst_name;
+      dst_offset = dst_offset;
+      start = start;
+      end = end;
+    }
 
-pub name_and_offset_is_one : (text x y : List ℕ) (t u : WrittenTime) (rest more : List ℕ) → IsNameAndOffset text x t rest → IsNameAndOffset text y u more → (x ≡ y) × (t ≡ u) × (rest ≡ more)
+pub name_and_offset_is_one : (text x y : List ℕ) (t u : WrittenTime) (rest more : List ℕ)
+    → IsNameAndOffset text x t rest → IsNameAndOffset text y u more → (x ≡ y) × (t ≡ u) × (rest ≡ more)
 name_and_offset_is_one text x y t u rest more a b =
     let name = name_is_one text x y a.after_name b.after_name a.name_is b.name_is in
     let offset = signed_time_is_one b.after_name t u rest more (rw name.1 at a.offset_is) b.offset_is in
     (name.0, offset.0, offset.1)
 
-pub alternate_text_is_one : (extended : Bool) (text : List ℕ) (a b : AlternateText) → IsAlternateText extended text a → IsAlternateText extended text b → a ≡ b
+pub alternate_text_is_one : (extended : Bool) (text : List ℕ) (a b : AlternateText) → IsAlternateText extended text a
+    → IsAlternateText extended text b → a ≡ b
 alternate_text_is_one extended text a b x y =
-    let std = name_and_offset_is_one text a.std_name b.std_name a.std_offset b.std_offset x.after_std y.after_std x.std_is y.std_is in
-    let name = name_is_one y.after_std a.dst_name b.dst_name x.after_dst_name y.after_dst_name (rw std.2 at x.dst_name_is) y.dst_name_is in
-    let offset = daylight_offset_is_one y.after_dst_name a.dst_offset b.dst_offset (comma ∷ x.start_text) (comma ∷ y.start_text) (rw name.1 at x.dst_offset_is) y.dst_offset_is in
-    let start = rule_text_is_one extended y.start_text a.start b.start (comma ∷ x.end_text) (comma ∷ y.end_text) (rw (same_tail offset.1) at x.start_is) y.start_is in
+    let std = name_and_offset_is_one text a.std_name b.std_name a.std_offset b.std_offset x.after_std y.after_std
+    x.std_is y.std_is in
+    let name = name_is_one y.after_std a.dst_name b.dst_name x.after_dst_name y.after_dst_name
+    (rw std.2 at x.dst_name_is) y.dst_name_is in
+    let offset = daylight_offset_is_one y.after_dst_name a.dst_offset b.dst_offset (comma ∷ x.start_text)
+    (comma ∷ y.start_text) (rw name.1 at x.dst_offset_is) y.dst_offset_is in
+    let start = rule_text_is_one extended y.start_text a.start b.start (comma ∷ x.end_text) (comma ∷ y.end_text)
+    (rw (same_tail offset.1) at x.start_is) y.start_is in
     let end = rule_text_is_one extended y.end_text a.end b.end [] [] (rw (same_tail start.1) at x.end_is) y.end_is in
-    let same : text_of a.std_name a.std_offset a.dst_name a.dst_offset a.start a.end ≡ text_of b.std_name b.std_offset b.dst_name b.dst_offset b.start b.end = grind (arith, std.0, std.1, name.0, offset.0, start.0, end.0) in same
+    let same : text_of a.std_name a.std_offset a.dst_name a.dst_offset a.start a.end
+    ≡ text_of b.std_name b.std_offset b.dst_name b.dst_offset b.start b.end =
+    grind (arith, std.0, std.1, name.0, offset.0, start.0, end.0) in same

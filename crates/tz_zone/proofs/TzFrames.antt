@@ -11,20 +11,24 @@ use Rattle.tz_zone.specs.TzFile.{IsFirstVersion, part_with, part_of, footer_of, 
 -- in version 1 the first unit is read, and there is no footer
 pub part_of_first : (bytes : List ℕ) → IsFirstVersion bytes → part_of bytes ≡ part_with w32 bytes
 unfolding part_of
-part_of_first bytes version = cond-true (eqb (slice_index bytes 4) 0) (part_with w32 bytes) (part_with w64 (after w32 bytes)) (eq-eqb (slice_index bytes 4) 0 version)
+part_of_first bytes version = cond-true (eqb (slice_index bytes 4) 0) (part_with w32 bytes)
+    (part_with w64 (after w32 bytes)) (eq-eqb (slice_index bytes 4) 0 version)
 
 pub footer_of_first : (bytes : List ℕ) → IsFirstVersion bytes → footer_of bytes ≡ None
 unfolding footer_of
-footer_of_first bytes version = cond-true (eqb (slice_index bytes 4) 0) None (Some (after w64 (after w32 bytes))) (eq-eqb (slice_index bytes 4) 0 version)
+footer_of_first bytes version = cond-true (eqb (slice_index bytes 4) 0) None (Some (after w64 (after w32 bytes)))
+    (eq-eqb (slice_index bytes 4) 0 version)
 
 -- in later versions the second one, and what stands after it
 pub part_of_later : (bytes : List ℕ) → ¬ IsFirstVersion bytes → part_of bytes ≡ part_with w64 (after w32 bytes)
 unfolding part_of
-part_of_later bytes version = cond-false (eqb (slice_index bytes 4) 0) (part_with w32 bytes) (part_with w64 (after w32 bytes)) (ne_eqb (slice_index bytes 4) 0 version)
+part_of_later bytes version = cond-false (eqb (slice_index bytes 4) 0) (part_with w32 bytes)
+    (part_with w64 (after w32 bytes)) (ne_eqb (slice_index bytes 4) 0 version)
 
 pub footer_of_later : (bytes : List ℕ) → ¬ IsFirstVersion bytes → footer_of bytes ≡ Some (after w64 (after w32 bytes))
 unfolding footer_of
-footer_of_later bytes version = cond-false (eqb (slice_index bytes 4) 0) None (Some (after w64 (after w32 bytes))) (ne_eqb (slice_index bytes 4) 0 version)
+footer_of_later bytes version = cond-false (eqb (slice_index bytes 4) 0) None (Some (after w64 (after w32 bytes)))
+    (ne_eqb (slice_index bytes 4) 0 version)
 
 -- what std trims is trimmed
 pub trim_is : (bytes text : List ℕ) → IsTrimAscii bytes text → text ≡ trimmed bytes

@@ -1,14 +1,15 @@
 -- A table of one more record is the table and that record.
-use Rattle.std.proofs.Common.{◌≡◌, ℕ, ◌+◌, List, [], ◌∷◌, ◌++◌, length, refl, zero-add}
+use Rattle.std.proofs.Common.{◌≡◌, ℕ, ◌+◌, List, [], ◌∷◌, ◌++◌, refl, zero-add}
 use Rattle.std.specs.Int.{Width}
-use Rattle.std.proofs.lemmas.List.FromFn.{length-map-range_with_len, map-range_with_len_more}
+use Rattle.std.proofs.lemmas.List.FromFn.{map-range_with_len_more}
 use Rattle.tz_zone.specs.TzFile.{Block, change_at, leap_at, type_at, transitions_of, leaps_of, types_of}
 
 pub transitions_none : (w : Width) (block : Block) → transitions_of w block 0 ≡ []
 unfolding transitions_of
 transitions_none w block = refl
 
-pub transitions_more : (w : Width) (block : Block) (i : ℕ) → transitions_of w block (i + 1) ≡ transitions_of w block i ++ change_at w block i ∷ []
+pub transitions_more : (w : Width) (block : Block) (i : ℕ)
+    → transitions_of w block (i + 1) ≡ transitions_of w block i ++ change_at w block i ∷ []
 unfolding transitions_of
 transitions_more w block i = map-range_with_len_more (change_at w block) 0 i i (zero-add i)
 
@@ -16,7 +17,8 @@ pub leaps_none : (w : Width) (block : Block) → leaps_of w block 0 ≡ []
 unfolding leaps_of
 leaps_none w block = refl
 
-pub leaps_more : (w : Width) (block : Block) (i : ℕ) → leaps_of w block (i + 1) ≡ leaps_of w block i ++ leap_at w block i ∷ []
+pub leaps_more : (w : Width) (block : Block) (i : ℕ)
+    → leaps_of w block (i + 1) ≡ leaps_of w block i ++ leap_at w block i ∷ []
 unfolding leaps_of
 leaps_more w block i = map-range_with_len_more (leap_at w block) 0 i i (zero-add i)
 
@@ -28,12 +30,9 @@ pub types_more : (block : Block) (i : ℕ) → types_of block (i + 1) ≡ types_
 unfolding types_of
 types_more block i = map-range_with_len_more (type_at block) 0 i i (zero-add i)
 
-pub length-types_of : (block : Block) (count : ℕ) → length (types_of block count) ≡ count
-unfolding types_of
-length-types_of block count = length-map-range_with_len (type_at block) 0 count
-
 -- a table so far, and the record that is pushed to it
-pub pushed : {X : Type 0} (table : ℕ → List X) (i : ℕ) (items more : List X) (x y : X) → items ≡ table i → more ≡ items ++ x ∷ [] → x ≡ y → table (i + 1) ≡ table i ++ y ∷ [] → more ≡ table (i + 1)
+pub pushed : {X : Type 0} (table : ℕ → List X) (i : ℕ) (items more : List X) (x y : X) → items ≡ table i
+    → more ≡ items ++ x ∷ [] → x ≡ y → table (i + 1) ≡ table i ++ y ∷ [] → more ≡ table (i + 1)
 pushed table i items more x y so_far push is next = rw (push, so_far, is, next)
 
 -- For `grind`: the tables of none and of one more.

@@ -1,10 +1,11 @@
--- Where the clock of a zone changes, and the segments between. (RFC 8536, section 3.2: transition times and types; 3.3: the footer.)
+-- Where the clock of a zone changes, and the segments between. (RFC 8536, section 3.2: transition
+-- times and types; 3.3: the footer.)
 use Rattle.std.specs.Prelude.{◌≢◌, ℤ, pos, negsuc, ◌-ℤ◌, ◌≤ℤ◌, ◌<ℤ◌, Option, MatchOption, option_copied}
 use Rattle.tz_rule.specs.LocalTimeType.{LocalTimeType}
 use Rattle.tz_zone.specs.Table.{Zone}
 use Rattle.tz_zone.specs.Clock.{IsClock, HasNoType}
 use Rattle.tz_zone.specs.declared.clock.segment.Segment.{Segment as KeptSegment}
-use Rattle.tz_zone.specs.declared.clock.change.Change.{Change as KeptChange}
+use Rattle.tz_zone.specs.declared.clock.segment.Change.{Change as KeptChange}
 
 -- what contracts see of a segment: its first and its last instant, and its type, if it has one
 pub record Segment : Type 0 where
@@ -19,7 +20,11 @@ pub record Change : Type 0 where
   pub after : LocalTimeType
 
 abbrev pub segment_of : KeptSegment → Segment
-segment_of s = record { from = s.from; last = s.last; local_time_type = option_copied s.local_time_type }
+segment_of s = record {
+  from = s.from;
+  last = s.last;
+  local_time_type = option_copied s.local_time_type;
+}
 
 abbrev pub change_of : KeptChange → Change
 change_of c = record { unix_time = c.unix_time; before = c.before.now; after = c.after.now }
@@ -33,7 +38,8 @@ pub record IsTrueSegment (z : Zone) (s : Segment) : Type 0 where
   pub order : s.from ≤ℤ s.last
   pub holds : (u : ℤ) → s.from ≤ℤ u → u ≤ℤ s.last → HasTypeOrNone z u s.local_time_type
 
--- the clock changes at an instant: it has one type at the instant before, which is one of 64 bits as well, and another type at it
+-- the clock changes at an instant: it has one type at the instant before, which is one of 64 bits
+-- as well, and another type at it
 pub record IsChange (z : Zone) (c : Change) : Type 0 where
   pub not_least : negsuc 9223372036854775807 <ℤ c.unix_time
   pub up_to : c.unix_time ≤ℤ pos 9223372036854775807

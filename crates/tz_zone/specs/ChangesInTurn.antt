@@ -3,36 +3,41 @@ use Rattle.std.specs.Prelude.{◌≡◌, ℕ, zero, suc, ℤ, Option, MatchOptio
 use Rattle.tz_zone.specs.Table.{Zone}
 use Rattle.tz_zone.specs.ZoneRef.{zone_of}
 use Rattle.tz_zone.specs.Changes.{Change, change_of, IsFollowing, IsPreceding, HasNoFollowing, HasNoPreceding}
-use Rattle.tz_zone.specs.declared.clock.change.Change.{Change as KeptChange}
-use Rattle.tz_zone.specs.declared.timezone.change_iterators.ChangesAfter.{ChangesAfter}
-use Rattle.tz_zone.specs.declared.timezone.change_iterators.ChangesBefore.{ChangesBefore}
+use Rattle.tz_zone.specs.declared.clock.segment.Change.{Change as KeptChange}
+use Rattle.tz_zone.specs.declared.timezone.changes.ChangesAfter.{ChangesAfter}
+use Rattle.tz_zone.specs.declared.timezone.changes.ChangesBefore.{ChangesBefore}
 
--- what contracts see of changes one after the other: the zone, and the instant after or before which the next one is looked for
-pub record Place : Type 0 where
+-- what contracts see of changes one after the other: the zone, and the instant after or before
+-- which the next one is looked for
+pub record Position : Type 0 where
   pub zone : Zone
   pub unix_time : ℤ
 
-abbrev pub place_after : ChangesAfter → Place
-place_after s = record { zone = zone_of s.zone; unix_time = s.unix_time }
+abbrev pub position_after : ChangesAfter → Position
+position_after s = record { zone = zone_of s.zone; unix_time = s.unix_time }
 
-abbrev pub place_before : ChangesBefore → Place
-place_before s = record { zone = zone_of s.zone; unix_time = s.unix_time }
+abbrev pub position_before : ChangesBefore → Position
+position_before s = record { zone = zone_of s.zone; unix_time = s.unix_time }
 
--- the place at an instant of the same zone
-abbrev pub moved_to : ℤ → Place → Place
+-- the position at an instant of the same zone
+abbrev pub moved_to : ℤ → Position → Position
 moved_to u p = record { zone = p.zone; unix_time = u }
 
--- a call gives the change that follows the place, which moves there, or there is none and it stays
+-- a call gives the change that follows the position, which moves there, or there is none and it
+-- stays
 abbrev pub GivesFollowing : ChangesAfter → Option KeptChange → ChangesAfter → Type 0
 GivesFollowing s r t = MatchOption r
-    (HasNoFollowing (zone_of s.zone) s.unix_time × (place_after t ≡ place_after s))
-    (λ c. IsFollowing (zone_of s.zone) s.unix_time (change_of c) × (place_after t ≡ moved_to (change_of c).unix_time (place_after s)))
+    (HasNoFollowing (zone_of s.zone) s.unix_time × (position_after t ≡ position_after s))
+    (λ c. IsFollowing (zone_of s.zone) s.unix_time (change_of c)
+    × (position_after t ≡ moved_to (change_of c).unix_time (position_after s)))
 
--- a call gives the change that precedes the place, which moves there, or there is none and it stays
+-- a call gives the change that precedes the position, which moves there, or there is none and it
+-- stays
 abbrev pub GivesPreceding : ChangesBefore → Option KeptChange → ChangesBefore → Type 0
 GivesPreceding s r t = MatchOption r
-    (HasNoPreceding (zone_of s.zone) s.unix_time × (place_before t ≡ place_before s))
-    (λ c. IsPreceding (zone_of s.zone) s.unix_time (change_of c) × (place_before t ≡ moved_to (change_of c).unix_time (place_before s)))
+    (HasNoPreceding (zone_of s.zone) s.unix_time × (position_before t ≡ position_before s))
+    (λ c. IsPreceding (zone_of s.zone) s.unix_time (change_of c)
+    × (position_before t ≡ moved_to (change_of c).unix_time (position_before s)))
 
 -- the change after an instant that has this many changes between: the first has none
 abbrev pub IsNthFollowing : Zone → ℤ → ℕ → Change → Type 0

@@ -10,9 +10,11 @@ use Rattle.tz_base.specs.declared.error.tz_error.ReadFault.TheVariants.{Failed}
 abbrev pub IsFailed : ReadFault → Type 0
 IsFailed e = (fault : Error) × (e ≡ Failed fault)
 
--- a file of this type had these bytes left, and was read to its end; where the bytes of a file are not known, only that there was one
+-- a file of this type had these bytes left, and was read to its end; where the bytes of a file are
+-- not known, only that there was one
 abbrev pub IsReadOut : {F : Type 0} → (F → Option (List ℕ)) → List ℕ → Type 0
-IsReadOut {F} remaining bytes = (opened : F) × (ended : F) × Consumes (remaining opened) (remaining ended) bytes × IsAtEnd (remaining ended)
+IsReadOut {F} remaining bytes = (opened : F) × (ended : F)
+    × Consumes (remaining opened) (remaining ended) bytes × IsAtEnd (remaining ended)
 
 -- at most this many bytes were taken
 abbrev pub TakesAtMost : ℕ → Option (List ℕ) → Option (List ℕ) → Type 0

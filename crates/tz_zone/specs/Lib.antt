@@ -6,11 +6,11 @@ pub mod Table
 pub mod LeapTime
 pub mod Looks
 pub mod Clock
-pub mod PlacesLeft
+pub mod PositionsLeft
 pub mod ValidZone
 pub mod Offsets
 pub mod ZoneRef
-pub mod ZoneSeen
+pub mod LentRules
 pub mod ZoneOfData
 pub mod ClockSegments
 pub mod ClockSpans

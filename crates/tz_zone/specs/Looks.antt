@@ -1,4 +1,5 @@
--- Counts of looks at a list: by at most one for each look. A count of 64 bits stays at its greatest.
+-- Counts of looks at a list: by at most one for each look. A count of 64 bits stays at its
+-- greatest.
 use Rattle.std.specs.Prelude.{ℕ, ◌+◌, ◌≤◌, true, false, nat_lt, if◌then◌else◌}
 use Rattle.std.proofs.Common.{arith}
 
@@ -8,11 +9,13 @@ one_look_more n = (if nat_lt n 18446744073709551615 then n + 1 else n)
 
 pub one_look_more-no_less : (n : ℕ) → n ≤ one_look_more n
 one_look_more-no_less n =
-    elim (nat_lt n 18446744073709551615) as (λ t. n ≤ (if t then n + 1 else n)) [ true ↦ omega arith | false ↦ omega arith ]
+    elim (nat_lt n 18446744073709551615) as (λ t. n ≤ (if t then n + 1 else n))
+    [ true ↦ omega arith | false ↦ omega arith ]
 
 pub one_look_more-one_more : (n : ℕ) → one_look_more n ≤ n + 1
 one_look_more-one_more n =
-    elim (nat_lt n 18446744073709551615) as (λ t. (if t then n + 1 else n) ≤ n + 1) [ true ↦ omega arith | false ↦ omega arith ]
+    elim (nat_lt n 18446744073709551615) as (λ t. (if t then n + 1 else n) ≤ n + 1)
+    [ true ↦ omega arith | false ↦ omega arith ]
 
 -- looks that are not counted
 pub same_looks-no_less : (n : ℕ) → n ≤ n

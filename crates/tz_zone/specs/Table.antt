@@ -21,8 +21,18 @@ pub record Zone : Type 0 where
   pub extra_rule : Option TransitionRule
 
 -- the zone with these parts
-abbrev pub zone_with : List Transition → List LocalTimeType → List LeapSecond → Option TransitionRule → Zone
-zone_with transitions types leaps rule = record { transitions = transitions; types = types; leap_seconds = leaps; extra_rule = rule }
+abbrev pub zone_with : List Transition → List LocalTimeType → List LeapSecond
+    → Option TransitionRule → Zone
+zone_with transitions types leaps rule = record {
+  transitions = transitions;
+  types = types;
+  leap_seconds = leaps;
+  extra_rule = rule;
+}
+
+-- the zone without its transitions
+abbrev pub without_transitions : Zone → Zone
+without_transitions z = zone_with [] z.types z.leap_seconds z.extra_rule
 
 -- the zone that has one type alone
 abbrev pub zone_of_type : LocalTimeType → Zone

@@ -1,4 +1,5 @@
--- TZif files: which bytes are one, and the tables that they denote. (RFC 8536, section 3; version 4 after RFC 9636, section 3.)
+-- TZif files: which bytes are one, and the tables that they denote. (RFC 8536, section 3; version 4
+-- after RFC 9636, section 3.)
 use Rattle.std.specs.Prelude.{◌≡◌, ◌≢◌, ℕ, ◌+◌, ◌-◌, ◌*◌, ◌<◌, ◌≤◌, ◌⊎◌, ℤ, Bool, ◌==◌, if◌then◌else◌, List, [], length, take, drop, map, Option, Some, None, Contains, IsUtf8, slice_get, slice_index, slice_range, codes, ◌||◌}
 use Rattle.std.specs.Char.{is_ascii_whitespace}
 use Rattle.std.specs.List.{range_with_len, before_first, prefix_len, suffix_len}
@@ -10,7 +11,8 @@ use Rattle.tz_zone.specs.Table.{Transition, LeapSecond, Zone, zone_with}
 use Rattle.tz_zone.specs.TzText.{IsTzText}
 use Rattle.tz_zone.specs.ValidZone.{IsPlainTable, IsValidZone}
 
--- the number that the bytes at a place write, the most significant first; signed in two's complement
+-- the number that the bytes at a position write, the most significant first; signed in two's
+-- complement
 unfoldable pub number_at : Width → List ℕ → ℕ → ℕ
 number_at w bytes at = from_be_bytes w (take (byte_len w) (drop at bytes))
 
@@ -78,7 +80,8 @@ pub record IsHeader (bytes : List ℕ) : Type 0 where
   pub version : IsVersion (slice_index bytes 4)
   pub counts : AreCounts (counts_of bytes)
 
--- where the parts of the block begin after their header, and where the block ends, if times have this width (section 3.2)
+-- where the parts of the block begin after their header, and where the block ends, if times have
+-- this width (section 3.2)
 abbrev pub indexes_at : Width → Counts → ℕ
 indexes_at w n = header_len + n.transition * byte_len w
 
@@ -133,7 +136,11 @@ after w bytes = drop (end_at w (counts_of bytes)) bytes
 
 -- record i of each table
 unfoldable pub change_at : Width → Block → ℕ → Transition
-change_at w block i = record { unix_leap_time = signed_at w block.times (i * byte_len w); type_index = slice_index block.indexes i }
+change_at w block i = record {
+  unix_leap_time = signed_at w block.times (i * byte_len w);
+  type_index =
+      slice_index block.indexes i;
+}
 
 unfoldable pub leap_at : Width → Block → ℕ → LeapSecond
 leap_at w block i = record {
@@ -180,11 +187,13 @@ pub record IsTypeRecord (block : Block) (i : ℕ) : Type 0 where
 
 -- wall clock or standard time, and UT only with standard time
 abbrev pub IsIndicatorPair : ℕ → ℕ → Type 0
-IsIndicatorPair std_wall ut_local = ((std_wall ≡ 0) × (ut_local ≡ 0)) ⊎ ((std_wall ≡ 1) × IsFlag ut_local)
+IsIndicatorPair std_wall ut_local = ((std_wall ≡ 0) × (ut_local ≡ 0))
+    ⊎ ((std_wall ≡ 1) × IsFlag ut_local)
 
 -- the indicators of type i, which are 0 where they are not given
 abbrev pub HasIndicators : Block → ℕ → Type 0
-HasIndicators block i = IsIndicatorPair (slice_index block.std_walls i) (slice_index block.ut_locals i)
+HasIndicators block i = IsIndicatorPair (slice_index block.std_walls i)
+    (slice_index block.ut_locals i)
 
 -- the content of a block with this many types
 pub record IsContent (block : Block) (count : ℕ) : Type 0 where
@@ -212,7 +221,8 @@ part_with w bytes = record {
 abbrev pub IsFirstVersion : List ℕ → Type 0
 IsFirstVersion bytes = slice_index bytes 4 ≡ version_1
 
--- headers and blocks: nothing stands after the first unit in version 1, and a second unit in later ones
+-- headers and blocks: nothing stands after the first unit in version 1, and a second unit in later
+-- ones
 pub record IsFramed (bytes : List ℕ) : Type 0 where
   pub first : IsUnit w32 bytes
   pub nothing_after : IsFirstVersion bytes → after w32 bytes ≡ []
@@ -220,22 +230,26 @@ pub record IsFramed (bytes : List ℕ) : Type 0 where
 
 -- the unit whose content is read: the only one, or the second, whose times have eight bytes
 unfoldable pub part_of : List ℕ → Part
-part_of bytes = if slice_index bytes 4 == version_1 then part_with w32 bytes else part_with w64 (after w32 bytes)
+part_of bytes = if slice_index bytes 4 == version_1 then part_with w32 bytes else part_with w64
+    (after w32 bytes)
 
 -- what stands after the second one is the footer (section 3.3)
 unfoldable pub footer_of : List ℕ → Option (List ℕ)
-footer_of bytes = if slice_index bytes 4 == version_1 then None else Some (after w64 (after w32 bytes))
+footer_of bytes = if slice_index bytes 4 == version_1 then None else Some
+    (after w64 (after w32 bytes))
 
 -- bytes without the ASCII white space at their ends
 unfoldable pub trimmed_start : List ℕ → List ℕ
 trimmed_start bytes = drop (prefix_len is_ascii_whitespace bytes) bytes
 
 unfoldable pub trimmed : List ℕ → List ℕ
-trimmed bytes = take (length (trimmed_start bytes) - suffix_len is_ascii_whitespace (trimmed_start bytes)) (trimmed_start bytes)
+trimmed bytes = take (length (trimmed_start bytes) - suffix_len is_ascii_whitespace
+    (trimmed_start bytes)) (trimmed_start bytes)
 
 -- the first and the last byte are line feeds, which may be one
 abbrev pub IsBetweenLineFeeds : List ℕ → Type 0
-IsBetweenLineFeeds footer = (slice_get footer 0 ≡ Some line_feed) × (slice_get footer (length footer - 1) ≡ Some line_feed)
+IsBetweenLineFeeds footer = (slice_get footer 0 ≡ Some line_feed)
+    × (slice_get footer (length footer - 1) ≡ Some line_feed)
 
 -- what may stand between them: it does not begin with a colon, and has no zero byte
 abbrev pub MayBeText : List ℕ → Type 0
@@ -254,7 +268,8 @@ IsTextRule extended text (Some rule) = (text ≢ []) × IsTzText extended text r
 -- the rule after the tables: none in version 1
 abbrev pub IsExtraRule : Bool → Option (List ℕ) → Option TransitionRule → Type 0
 IsExtraRule extended None rule = rule ≡ None
-IsExtraRule extended (Some footer) rule = IsFooter footer × IsTextRule extended (trimmed footer) rule
+IsExtraRule extended (Some footer) rule = IsFooter footer
+    × IsTextRule extended (trimmed footer) rule
 
 -- texts are extended where the header of the unit that is read is of version 3 or 4 (section 3.3.1)
 abbrev pub is_extended : Part → Bool

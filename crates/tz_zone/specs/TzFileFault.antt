@@ -1,6 +1,6 @@
--- Which faults of a TZif file are there. (RFC 8536, section 3.)
--- One of a header, a block or the file's end is there when what comes before it is as stated, one of the content or the footer
--- when headers and blocks are, and one of the zone's checks when all else is.
+-- Which faults of a TZif file are there. (RFC 8536, section 3.) One of a header, a block or the
+-- file's end is there when what comes before it is as stated, one of the content or the footer when
+-- headers and blocks are, and one of the zone's checks when all else is.
 use Rattle.std.specs.Prelude.{◌≡◌, ◌≢◌, ℕ, ◌+◌, ◌*◌, ◌<◌, ◌≤◌, ◌⊎◌, Bool, List, [], length, Option, Some, None, IsUtf8, slice_index, alloc_error}
 use Rattle.std.specs.Int.{Width, w32, w64}
 use Rattle.tz_base.specs.declared.error.tz_error.TzError.{TzError}
@@ -25,7 +25,8 @@ HeaderFails _ _ = ⊥
 
 -- of the header or its block
 abbrev pub UnitFails : Width → List ℕ → TzFileError → Type 0
-UnitFails w bytes e = HeaderFails bytes e ⊎ (IsHeader bytes × (e ≡ ParseData UnexpectedEof) × (length bytes < end_at w (counts_of bytes)))
+UnitFails w bytes e = HeaderFails bytes e
+    ⊎ (IsHeader bytes × (e ≡ ParseData UnexpectedEof) × (length bytes < end_at w (counts_of bytes)))
 
 -- of headers, blocks or the file's end
 abbrev pub FrameFails : List ℕ → TzFileError → Type 0
@@ -37,8 +38,10 @@ FrameFails bytes e =
 -- of type record i
 abbrev pub TypeFails : Block → ℕ → TzError → Type 0
 TypeFails block i (TzFile InvalidDstIndicator) = ¬ IsFlag (slice_index block.types (i * 6 + 4))
-TypeFails block i (TzFile InvalidTimeZoneDesignationCharIndex) = ¬ HasName block.names (slice_index block.types (i * 6 + 5))
-TypeFails block i (TypeFault fault) = HasName block.names (slice_index block.types (i * 6 + 5)) × IsFirstTypeFault (type_at block i) fault
+TypeFails block i (TzFile InvalidTimeZoneDesignationCharIndex) =
+    ¬ HasName block.names (slice_index block.types (i * 6 + 5))
+TypeFails block i (TypeFault fault) = HasName block.names (slice_index block.types (i * 6 + 5))
+    × IsFirstTypeFault (type_at block i) fault
 TypeFails _ _ _ = ⊥
 
 abbrev pub SomeTypeFails : Block → ℕ → TzError → Type 0
@@ -50,7 +53,8 @@ IndicatorsFail block count = (i : ℕ) × (i < count) × ¬ HasIndicators block 
 
 -- of the content of a block with this many types
 abbrev pub ContentFails : Block → ℕ → TzError → Type 0
-ContentFails block count e = SomeTypeFails block count e ⊎ ((e ≡ TzFile InvalidStdWallUtLocal) × IndicatorsFail block count)
+ContentFails block count e = SomeTypeFails block count e
+    ⊎ ((e ≡ TzFile InvalidStdWallUtLocal) × IndicatorsFail block count)
 
 -- of a footer around its text: bytes that are not UTF-8 are refused for that
 abbrev pub FooterFails : List ℕ → TzFileError → Type 0
@@ -69,7 +73,8 @@ ExtraRuleFails extended (Some footer) e =
 -- of the zone: leap seconds that the version does not hold, or a zone that is none
 abbrev pub ZoneFails : Part → Option TransitionRule → TzError → Type 0
 ZoneFails p rule e =
-    ((e ≡ TimeZone InvalidLeapSecond) × ¬ HoldsLeapSeconds p) ⊎ (HoldsLeapSeconds p × IsFirstZoneFault (zone_of_part p rule) e)
+    ((e ≡ TimeZone InvalidLeapSecond) × ¬ HoldsLeapSeconds p)
+    ⊎ (HoldsLeapSeconds p × IsFirstZoneFault (zone_of_part p rule) e)
 
 -- the bytes fail as a file in this way
 abbrev pub FileFails : List ℕ → TzError → Type 0
@@ -78,7 +83,8 @@ FileFails bytes e =
     ⊎ (IsFramed bytes × ContentFails (part_of bytes).block (part_of bytes).counts.local_type e)
     ⊎ (IsFramed bytes × ExtraRuleFails (is_extended (part_of bytes)) (footer_of bytes) e)
     ⊎ (IsFramed bytes × IsContent (part_of bytes).block (part_of bytes).counts.local_type
-    × (rule : Option TransitionRule) × IsExtraRule (is_extended (part_of bytes)) (footer_of bytes) rule
+    × (rule : Option TransitionRule)
+    × IsExtraRule (is_extended (part_of bytes)) (footer_of bytes) rule
     × ZoneFails (part_of bytes) rule e)
 
 -- a reading is refused for memory, or for a fault that is there

@@ -3,11 +3,11 @@ use Rattle.std.specs.Prelude.{◌≡◌, ◌+◌, ◌*◌, length}
 use Rattle.std.specs.Int.{Width, w32, w64, byte_len}
 use Rattle.tz_zone.specs.TzFile.{Counts, Block, Part, transitions_of, types_of, leaps_of}
 use Rattle.tz_zone.specs.declared.parse.tz_file.tables.Tables.{Tables}
-use Rattle.tz_zone.specs.declared.parse.tz_file.unit.Block.{Block as BlockSlices}
-use Rattle.tz_zone.specs.declared.parse.tz_file.unit.Unit.{Unit as UnitSlices}
+use Rattle.tz_zone.specs.declared.parse.tz_file.frame.Block.{Block as BlockSlices}
+use Rattle.tz_zone.specs.declared.parse.tz_file.frame.Unit.{Unit as UnitSlices}
 use Rattle.tz_zone.specs.declared.parse.tz_file.header.Counts.{Counts as CountFields}
-use Rattle.tz_zone.specs.declared.parse.tz_file.time_size.TimeSize.{TimeSize}
-use Rattle.tz_zone.specs.declared.parse.tz_file.time_size.TimeSize.TheVariants.{Four, Eight}
+use Rattle.tz_zone.specs.declared.parse.tz_file.header.TimeSize.{TimeSize}
+use Rattle.tz_zone.specs.declared.parse.tz_file.header.TimeSize.TheVariants.{Four, Eight}
 
 -- the width of a time
 abbrev pub width_of : TimeSize → Width
@@ -38,7 +38,13 @@ block_view b = record {
 }
 
 abbrev pub unit_view : UnitSlices → Part
-unit_view p = record { width = width_of p.size; version = p.version; counts = counts_view p.counts; block = block_view p.block; after = p.after.now }
+unit_view p = record {
+  width = width_of p.size;
+  version = p.version;
+  counts = counts_view p.counts;
+  block = block_view p.block;
+  after = p.after.now;
+}
 
 -- each table of a block with these counts has its records whole
 pub record HasSizes (w : Width) (n : Counts) (block : Block) : Type 0 where

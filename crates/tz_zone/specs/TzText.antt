@@ -1,6 +1,7 @@
--- The grammar of TZ strings, and the rules that they denote. (POSIX.1-2017, Base Definitions, 8.3: the TZ variable. RFC 8536, section 3.3.1: extended day times.)
--- A part of the grammar is a relation of a text, of what is read at its front, and of the bytes after.
--- Runs are the longest ones, and the reading asks for no range.
+-- The grammar of TZ strings, and the rules that they denote. (POSIX.1-2017, Base Definitions, 8.3:
+-- the TZ variable. RFC 8536, section 3.3.1: extended day times.) A part of the grammar is a
+-- relation of a text, of what is read at its front, and of the bytes after. Runs are the longest
+-- ones, and the reading asks for no range.
 use Rattle.std.specs.Prelude.{◌≡◌, ◌≢◌, ℕ, ◌+◌, ◌*◌, ◌≤◌, ◌==◌, Bool, true, false, not, ◌⊎◌, ℤ, pos, neg_ℤ, ◌+ℤ◌, List, [], ◌∷◌, ◌++◌, take_while, Option, Some, None, IfSome, if◌then◌else◌}
 use Rattle.std.specs.Char.{is_ascii_digit, is_ascii_alphabetic}
 use Rattle.std.specs.Str.Parse.{digits_value}
@@ -13,10 +14,11 @@ use Rattle.tz_rule.specs.declared.timezone.rule_day.RuleDay.TheVariants.{Julian1
 use Rattle.tz_rule.specs.declared.timezone.transition_rule.TransitionRule.{TransitionRule}
 use Rattle.tz_rule.specs.declared.timezone.transition_rule.TransitionRule.TheVariants.{Fixed, Alternate as Alternating}
 use Rattle.tz_zone.specs.Bytes.{capital_j, capital_m, closing_bracket, colon, comma, dot, minus_sign, opening_bracket, plus_sign, slash}
-use Rattle.tz_zone.specs.declared.parse.tz_string.start_and_end.DayAndTime.{DayAndTime}
-use Rattle.tz_zone.specs.declared.parse.tz_string.time.WrittenTime.{WrittenTime}
+use Rattle.tz_zone.specs.declared.parse.tz_string.day_time.DayAndTime.{DayAndTime}
+use Rattle.tz_zone.specs.declared.parse.tz_string.day_time.WrittenTime.{WrittenTime}
 
--- a time as it is written, and a day with a time: the reader's own types, which the crates above name so
+-- a time as it is written, and a day with a time: the reader's own types, which the crates above
+-- name so
 abbrev pub TimeText : Type 0
 TimeText = WrittenTime
 
@@ -45,12 +47,18 @@ is_in_brackets byte = not (byte == closing_bracket)
 
 abbrev pub IsName : List ℕ → List ℕ → List ℕ → Type 0
 IsName text name rest =
-    ((quoted : List ℕ) × (text ≡ opening_bracket ∷ quoted) × IsRun is_in_brackets quoted name (closing_bracket ∷ rest))
+    ((quoted : List ℕ) × (text ≡ opening_bracket ∷ quoted)
+    × IsRun is_in_brackets quoted name (closing_bracket ∷ rest))
     ⊎ (¬ Begins opening_bracket text × IsRun is_ascii_alphabetic text name rest)
 
 -- a time is written as its numbers, with a sign or without; this one has no minus
 abbrev pub plain_time : ℕ → ℕ → ℕ → WrittenTime
-plain_time hours minutes seconds = record { minus = false; hours = hours; minutes = minutes; seconds = seconds }
+plain_time hours minutes seconds = record {
+  minus = false;
+  hours = hours;
+  minutes = minutes;
+  seconds = seconds;
+}
 
 -- a colon and a number, or 0 where no colon stands
 abbrev pub IsPart : List ℕ → ℕ → List ℕ → Type 0
@@ -74,7 +82,8 @@ IsSign text minus rest =
     ⊎ (¬ Begins minus_sign text × ¬ Begins plus_sign text × (rest ≡ text) × (minus ≡ false))
 
 abbrev pub IsSignedTime : List ℕ → WrittenTime → List ℕ → Type 0
-IsSignedTime text t rest = (unsigned : List ℕ) × IsSign text t.minus unsigned × IsHms unsigned t rest
+IsSignedTime text t rest = (unsigned : List ℕ) × IsSign text t.minus unsigned
+    × IsHms unsigned t rest
 
 -- the time of day in a rule has a sign in extended texts alone
 abbrev pub IsDayTimeSign : Bool → List ℕ → Bool → List ℕ → Type 0
@@ -82,18 +91,22 @@ IsDayTimeSign true text minus rest = IsSign text minus rest
 IsDayTimeSign false text minus rest = (minus ≡ false) × (rest ≡ text)
 
 abbrev pub IsDayTime : Bool → List ℕ → WrittenTime → List ℕ → Type 0
-IsDayTime extended text t rest = (unsigned : List ℕ) × IsDayTimeSign extended text t.minus unsigned × IsHms unsigned t rest
+IsDayTime extended text t rest = (unsigned : List ℕ) × IsDayTimeSign extended text t.minus unsigned
+    × IsHms unsigned t rest
 
 -- Jn, n or Mm.w.d
 abbrev pub IsMonthWeekText : List ℕ → MonthWeek → List ℕ → Type 0
 IsMonthWeekText text d rest =
     (week : List ℕ) × (week_day : List ℕ)
-    × IsNumber text d.month (dot ∷ week) × IsNumber week d.week (dot ∷ week_day) × IsNumber week_day d.week_day rest
+    × IsNumber text d.month (dot ∷ week) × IsNumber week d.week (dot ∷ week_day)
+    × IsNumber week_day d.week_day rest
 
 abbrev pub IsDay : List ℕ → RuleDay → List ℕ → Type 0
-IsDay text (Julian1WithoutLeap n) rest = (number : List ℕ) × (text ≡ capital_j ∷ number) × IsNumber number n rest
+IsDay text (Julian1WithoutLeap n) rest = (number : List ℕ) × (text ≡ capital_j ∷ number)
+    × IsNumber number n rest
 IsDay text (Julian0WithLeap n) rest = IsNumber text n rest
-IsDay text (MonthWeekDay d) rest = (month : List ℕ) × (text ≡ capital_m ∷ month) × IsMonthWeekText month d rest
+IsDay text (MonthWeekDay d) rest = (month : List ℕ) × (text ≡ capital_m ∷ month)
+    × IsMonthWeekText month d rest
 
 -- a slash and a time of day, or two o'clock where no slash stands
 abbrev pub IsTimeOfRule : Bool → List ℕ → WrittenTime → List ℕ → Type 0
@@ -102,7 +115,8 @@ IsTimeOfRule extended text t rest =
     ⊎ (¬ Begins slash text × (t ≡ plain_time 2 0 0) × (rest ≡ text))
 
 abbrev pub IsRuleText : Bool → List ℕ → DayAndTime → List ℕ → Type 0
-IsRuleText extended text rule rest = (after_day : List ℕ) × IsDay text rule.day after_day × IsTimeOfRule extended after_day rule.time rest
+IsRuleText extended text rule rest = (after_day : List ℕ) × IsDay text rule.day after_day
+    × IsTimeOfRule extended after_day rule.time rest
 
 -- an offset, or none where a comma stands
 abbrev pub IsDaylightOffset : List ℕ → Option WrittenTime → List ℕ → Type 0
@@ -119,12 +133,14 @@ pub record AlternateText : Type 0 where
   pub end : DayAndTime
 
 -- a name and its offset
-pub record IsNameAndOffset (text name : List ℕ) (offset : WrittenTime) (rest : List ℕ) : Type 0 where
-  pub after_name : List ℕ
-  pub name_is : IsName text name after_name
-  pub offset_is : IsSignedTime after_name offset rest
+pub record IsNameAndOffset (text name : List ℕ) (offset : WrittenTime) (rest : List ℕ) : Type 0
+  where
+    pub after_name : List ℕ
+    pub name_is : IsName text name after_name
+    pub offset_is : IsSignedTime after_name offset rest
 
--- the whole text: the standard name and offset, the daylight name and offset, the two rules after commas
+-- the whole text: the standard name and offset, the daylight name and offset, the two rules after
+-- commas
 pub record IsAlternateText (extended : Bool) (text : List ℕ) (a : AlternateText) : Type 0 where
   pub after_std : List ℕ
   pub after_dst_name : List ℕ
@@ -165,7 +181,8 @@ pub record IsAlternateInRange (extended : Bool) (a : AlternateText) : Type 0 whe
 
 -- meaning: a time in seconds, its sign that of the whole
 abbrev pub seconds_of : WrittenTime → ℤ
-seconds_of t = let seconds = pos (3600 * t.hours + 60 * t.minutes + t.seconds) in if t.minus then neg_ℤ seconds else seconds
+seconds_of t = let seconds = pos (3600 * t.hours + 60 * t.minutes + t.seconds) in
+    if t.minus then neg_ℤ seconds else seconds
 
 -- the seconds that are added to UTC: the text has those that are taken off
 abbrev pub ut_offset_of : WrittenTime → ℤ
@@ -184,12 +201,15 @@ abbrev pub dst_type_of : AlternateText → LocalTimeType
 dst_type_of a = type_of (daylight_offset_of a.std_offset a.dst_offset) true (Some a.dst_name)
 
 abbrev pub rule_of : AlternateText → AlternateTime
-rule_of a = alternate_of (std_type_of a.std_name a.std_offset) (dst_type_of a) a.start.day (seconds_of a.start.time) a.end.day (seconds_of a.end.time)
+rule_of a = alternate_of (std_type_of a.std_name a.std_offset) (dst_type_of a) a.start.day
+    (seconds_of a.start.time) a.end.day (seconds_of a.end.time)
 
 -- the text is a name and an offset and denotes one type, or it denotes an alternate rule
 abbrev pub IsTzText : Bool → List ℕ → TransitionRule → Type 0
 IsTzText extended text (Fixed type) =
-    (name : List ℕ) × (offset : WrittenTime) × IsNameAndOffset text name offset [] × IsDesignation name × IsTimeUpTo offset_hours offset
+    (name : List ℕ) × (offset : WrittenTime) × IsNameAndOffset text name offset []
+    × IsDesignation name × IsTimeUpTo offset_hours offset
     × (type ≡ std_type_of name offset)
 IsTzText extended text (Alternating rule) =
-    (a : AlternateText) × IsAlternateText extended text a × IsAlternateInRange extended a × IsConsistentRule (rule_of a) × (rule ≡ rule_of a)
+    (a : AlternateText) × IsAlternateText extended text a × IsAlternateInRange extended a
+    × IsConsistentRule (rule_of a) × (rule ≡ rule_of a)

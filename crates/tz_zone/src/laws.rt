@@ -14,9 +14,9 @@ ghost use Rattle.tz_zone.specs.LeapTime.{IsEffect, IsLeapTime};
 ghost use Rattle.tz_zone.specs.Clock.{IsClock};
 ghost use Rattle.tz_zone.specs.ValidZone.{AreLeapSeconds, ExpiresAt, IsValidZone};
 ghost use Rattle.tz_zone.specs.ZoneRef.{zone_of, own_zone_of};
-ghost use Rattle.tz_zone.specs.declared.clock.change.Change.{Change as KeptChange};
-ghost use Rattle.tz_zone.specs.declared.timezone.change_iterators.ChangesAfter.{ChangesAfter};
-ghost use Rattle.tz_zone.specs.declared.timezone.change_iterators.ChangesBefore.{ChangesBefore};
+ghost use Rattle.tz_zone.specs.declared.clock.segment.Change.{Change as KeptChange};
+ghost use Rattle.tz_zone.specs.declared.timezone.changes.ChangesAfter.{ChangesAfter};
+ghost use Rattle.tz_zone.specs.declared.timezone.changes.ChangesBefore.{ChangesBefore};
 
 use crate::timezone::{DEFAULT_DIRECTORIES, LocalTimeType, TimeZone, TimeZoneRef, TransitionRule};
 use std::alloc::Allocator;
@@ -28,18 +28,22 @@ pub fn clocks_have_one_type()
 
 /// A leap time takes effect at no two instants.
 pub fn effects_are_unique()
-    ensures { (leaps : List LeapSecond) (v u u' : ℤ) → IsEffect leaps v u → IsEffect leaps v u' → u ≡ u' }
+    ensures { (leaps : List LeapSecond) (v u u' : ℤ) → IsEffect leaps v u → IsEffect leaps v u'
+        → u ≡ u' }
 {}
 
-/// An instant comes at the effect of a leap time or after it exactly where its own leap time is not below that one. So transitions come
-/// by their effects as they come by their times.
+/// An instant comes at the effect of a leap time or after it exactly where its own leap time is not
+/// below that one. So transitions come by their effects as they come by their times.
 pub fn effects_fit_leap_times()
-    ensures { (leaps : List LeapSecond) (v u w l : ℤ) → AreLeapSeconds leaps → IsEffect leaps v u → IsLeapTime leaps w l → (u ≤ℤ w) ↔ (v ≤ℤ l) }
+    ensures { (leaps : List LeapSecond) (v u w l : ℤ) → AreLeapSeconds leaps → IsEffect leaps v u
+        → IsLeapTime leaps w l → (u ≤ℤ w) ↔ (v ≤ℤ l) }
 {}
 
-/// A table of leap seconds that expires has the leap times that it has without its last record, the expiry.
+/// A table of leap seconds that expires has the leap times that it has without its last record, the
+/// expiry.
 pub fn expiries_change_no_leap_time()
-    ensures { (leaps : List LeapSecond) (expiry : LeapSecond) (time : ℤ) → AreLeapSeconds (leaps ++ expiry ∷ []) → ExpiresAt (leaps ++ expiry ∷ []) time
+    ensures { (leaps : List LeapSecond) (expiry : LeapSecond) (time : ℤ)
+        → AreLeapSeconds (leaps ++ expiry ∷ []) → ExpiresAt (leaps ++ expiry ∷ []) time
         → (u v : ℤ) → IsLeapTime (leaps ++ expiry ∷ []) u v ↔ IsLeapTime leaps u v }
 {}
 
@@ -55,10 +59,14 @@ pub fn own_zones_are_valid<A: Allocator + Copy>(zone: &TimeZone<A>)
 
 /// The first change after an instant is one, if there is any, and so is the last change before it.
 pub fn nearest_changes_are_unique()
-    ensures following { (z : Zone) (u : ℤ) (c d : Change) → IsFollowing z u c → IsFollowing z u d → c ≡ d }
-    ensures preceding { (z : Zone) (u : ℤ) (c d : Change) → IsPreceding z u c → IsPreceding z u d → c ≡ d }
-    ensures none_following { (z : Zone) (u : ℤ) (c : Change) → IsFollowing z u c → ¬ HasNoFollowing z u }
-    ensures none_preceding { (z : Zone) (u : ℤ) (c : Change) → IsPreceding z u c → ¬ HasNoPreceding z u }
+    ensures following { (z : Zone) (u : ℤ) (c d : Change) → IsFollowing z u c → IsFollowing z u d
+        → c ≡ d }
+    ensures preceding { (z : Zone) (u : ℤ) (c d : Change) → IsPreceding z u c → IsPreceding z u d
+        → c ≡ d }
+    ensures none_following { (z : Zone) (u : ℤ) (c : Change) → IsFollowing z u c
+        → ¬ HasNoFollowing z u }
+    ensures none_preceding { (z : Zone) (u : ℤ) (c : Change) → IsPreceding z u c
+        → ¬ HasNoPreceding z u }
 {}
 
 /// The changes that an iterator returns one after the other are the first, the second and so on
@@ -83,7 +91,8 @@ pub fn iterators_return_changes_in_turn()
 pub fn changes_are_counted()
     ensures unique { (z : Zone) (u : ℤ) (n : ℕ) (c d : Change)
         → IsNthFollowing z u n c → IsNthFollowing z u n d → c ≡ d }
-    ensures changes { (z : Zone) (u : ℤ) (n : ℕ) (c : Change) → IsNthFollowing z u n c → IsChange z c }
+    ensures changes { (z : Zone) (u : ℤ) (n : ℕ) (c : Change) → IsNthFollowing z u n c
+        → IsChange z c }
     ensures between { (z : Zone) (u : ℤ) (n : ℕ) (c d : Change) → IsNthFollowing z u n c
         → IsChange z d → u <ℤ d.unix_time → d.unix_time <ℤ c.unix_time
         → (m : ℕ) × (m < n) × IsNthFollowing z u m d }
@@ -95,8 +104,10 @@ pub fn changes_are_counted()
 /// before it. The change that follows it is preceded by it, and the one that precedes it is
 /// followed by it.
 pub fn changes_are_nearest_to_their_neighbours()
-    ensures preceding { (z : Zone) (c : Change) → IsChange z c → IsPreceding z (c.unix_time +ℤ pos 1) c }
-    ensures following { (z : Zone) (c : Change) → IsChange z c → IsFollowing z (c.unix_time -ℤ pos 1) c }
+    ensures preceding { (z : Zone) (c : Change) → IsChange z c
+        → IsPreceding z (c.unix_time +ℤ pos 1) c }
+    ensures following { (z : Zone) (c : Change) → IsChange z c
+        → IsFollowing z (c.unix_time -ℤ pos 1) c }
     ensures before_the_following { (z : Zone) (c d : Change)
         → IsChange z c → IsFollowing z c.unix_time d → IsPreceding z d.unix_time c }
     ensures after_the_preceding { (z : Zone) (c d : Change)
@@ -114,7 +125,8 @@ pub fn type_parts_are_sound(local_time_type: &LocalTimeType)
 
 /// So do the parts of each type of a list.
 fn listed_types_are_sound(local_time_types: &[LocalTimeType])
-    ensures { (i : ℕ) (t : LocalTimeType) → slice_get local_time_types.now i ≡ Some t → IsLocalTimeType t × FitsSigned w32 t.ut_offset }
+    ensures { (i : ℕ) (t : LocalTimeType) → slice_get local_time_types.now i ≡ Some t
+        → IsLocalTimeType t × FitsSigned w32 t.ut_offset }
 {
     for local_time_type in local_time_types {
         type_parts_are_sound(local_time_type);
@@ -123,7 +135,8 @@ fn listed_types_are_sound(local_time_types: &[LocalTimeType])
 
 /// So do the parts of the types of a rule.
 fn rule_types_are_sound(rule: &TransitionRule)
-    ensures { (u : ℤ) (t : LocalTimeType) → IsRuleType rule.now u t → IsLocalTimeType t × FitsSigned w32 t.ut_offset }
+    ensures { (u : ℤ) (t : LocalTimeType) → IsRuleType rule.now u t
+        → IsLocalTimeType t × FitsSigned w32 t.ut_offset }
 {
     match rule {
         TransitionRule::Fixed(fixed) => type_parts_are_sound(fixed),
@@ -134,10 +147,13 @@ fn rule_types_are_sound(rule: &TransitionRule)
     }
 }
 
-/// Every local time type that the clock of a zone shows has the parts that one may have, and its offset fits 32 bits.
+/// Every local time type that the clock of a zone shows has the parts that one may have, and its
+/// offset fits 32 bits.
 pub fn shown_types_are_sound(zone: &TimeZoneRef<'_>)
-    ensures sound { (u : ℤ) (t : LocalTimeType) → IsClock (zone_of zone.now) u t → IsLocalTimeType t }
-    ensures fits { (u : ℤ) (t : LocalTimeType) → IsClock (zone_of zone.now) u t → FitsSigned w32 t.ut_offset }
+    ensures sound { (u : ℤ) (t : LocalTimeType) → IsClock (zone_of zone.now) u t
+        → IsLocalTimeType t }
+    ensures fits { (u : ℤ) (t : LocalTimeType) → IsClock (zone_of zone.now) u t
+        → FitsSigned w32 t.ut_offset }
 {
     listed_types_are_sound(zone.local_time_types());
     if let Some(rule) = zone.extra_rule() {
@@ -145,7 +161,9 @@ pub fn shown_types_are_sound(zone: &TimeZoneRef<'_>)
     }
 }
 
-/// The directories in which [`TimeZone::from_posix_tz`] and [`TimeZone::named`] look for files, in their order.
+/// The directories in which [`TimeZone::from_posix_tz`] and [`TimeZone::named`] look for files, in
+/// their order.
 pub fn default_directories_have_their_values()
-    ensures { map (λ directory. directory.now) DEFAULT_DIRECTORIES.now ≡ codes "/usr/share/zoneinfo" ∷ codes "/share/zoneinfo" ∷ codes "/etc/zoneinfo" ∷ [] }
+    ensures { map (λ directory. directory.now) DEFAULT_DIRECTORIES.now ≡ codes "/usr/share/zoneinfo"
+        ∷ codes "/share/zoneinfo" ∷ codes "/etc/zoneinfo" ∷ [] }
 {}

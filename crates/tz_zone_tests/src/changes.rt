@@ -6,7 +6,7 @@ use std::process::Abort;
 use tz_base::error::TzError;
 use tz_samples::rules::central_europe;
 use tz_samples::utc;
-use tz_zone::timezone::{Change, TimeZone, TimeZoneRef, Transition, TransitionRule};
+use tz_zone::timezone::{Change, TimeZoneRef, Transition, TransitionRule};
 
 /// A change: its instant, and the offsets before it and from it on.
 type Row = (i64, i32, i32);
@@ -26,7 +26,8 @@ fn row_of(change: Option<Change<'_>>) -> Option<Row> {
     ))
 }
 
-/// From one instant on, and back from another, the changes are these, whether each is asked for or they come in turn.
+/// From one instant on, and back from another, the changes are these, whether each is asked for or
+/// they come in turn.
 fn expect_changes(rt: &impl Abort, zone: &TimeZoneRef<'_>, low: i64, high: i64, rows: &[Row]) {
     let mut from = low;
     let mut after = zone.changes_after(low);
@@ -85,40 +86,21 @@ fn changes_of_a_rule(rt: HostRuntime) -> Result<(), TzError> {
     Ok(())
 }
 
-/// What the first changes of an iterator tell are the rows.
-fn expect_rows<'a, I: Iterator<Item = Change<'a>> + Drop>(rt: &impl Abort, changes: I, rows: &[Row])
-    requires { I.can_next changes }
-{
-    for (change, row) in changes.zip(rows) {
-        expect_eq_at(rt, &row.0, &row_of(Some(change)), &Some(*row));
-    }
-}
-
+/// A transition to an equal type is no change, and neither is the beginning of a rule with the type
+/// of the last transition.
 #[test]
-fn changes_of_owned_zones(rt: HostRuntime) -> Result<(), TzError> {
-    static FORTH: [Row; 3] = [(10, 0, 3600), (30, 3600, 0), (40, 0, 7200)];
-    static BACK: [Row; 3] = [(40, 0, 7200), (30, 3600, 0), (10, 0, 3600)];
-    let alloc = rt.alloc();
+fn changes_of_transitions(rt: HostRuntime) -> Result<(), TzError> {
+    static ROWS: [Row; 3] = [(10, 0, 3600), (30, 3600, 0), (40, 0, 7200)];
+    let types = three_types()?;
     let transitions = [
         Transition::new(10, 1),
         Transition::new(20, 1),
         Transition::new(30, 0),
         Transition::new(40, 2),
     ];
-    let types = three_types()?;
-    let zone = TimeZone::new(
-        Vec::from_slice(alloc, &transitions)?,
-        Vec::from_slice(alloc, &types)?,
-        Vec::new(alloc),
-        Some(TransitionRule::Fixed(types[2])),
-    )?;
-    expect_eq(&rt, &row_of(zone.following(10)), &Some(FORTH[1]));
-    expect_eq(&rt, &row_of(zone.preceding(10)), &None);
-    expect_eq(&rt, &zone.changes_after(i64::MIN).count(), &3);
-    expect_eq(&rt, &zone.changes_before(i64::MAX).count(), &3);
-    expect_rows(&rt, zone.changes_after(i64::MIN), &FORTH);
-    expect_rows(&rt, zone.changes_before(i64::MAX), &BACK);
-    expect_rows(&rt, zone.changes_after(10), &FORTH[1..]);
-    expect_rows(&rt, zone.changes_before(40), &BACK[1..]);
+    let rule = Some(TransitionRule::Fixed(types[2]));
+    let zone = TimeZoneRef::new(&transitions, &types, &[], &rule)?;
+    expect_changes(&rt, &zone, i64::MIN, i64::MAX, &ROWS);
+    expect_no_others(&rt, &zone, 10, 40);
     Ok(())
 }

@@ -1,4 +1,5 @@
-//! Comparisons of tests. The proof of a test walks through each `assert_eq!` where it is written out, and through a call of these much faster.
+//! Comparisons of tests. The proof of a test walks through each `assert_eq!` where it is written
+//! out, and through a call of these much faster.
 
 use std::fmt::Debug;
 use std::process::Abort;

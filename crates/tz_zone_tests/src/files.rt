@@ -8,9 +8,9 @@ use std::fs::Files;
 use std::process::Abort;
 use std::test::Fail;
 use std::{env, fs, io, process};
-use tz_base::error::{Error, ReadFault};
+use tz_base::error::ReadFault;
 use tz_zone::inner::open_fault;
-use tz_zone::timezone::{LocalTimeType, TimeZone, TimeZoneSettings, read_file, read_file_up_to};
+use tz_zone::timezone::{read_file, read_file_up_to};
 
 /// Some MiB, of which the last piece of 2000 bytes is not whole.
 fn many_bytes(alloc: Global) -> Result<Vec<u8>, AllocError> {
@@ -40,14 +40,12 @@ fn a_file_of_the_machine_is_read_whole(rt: HostRuntime) -> Result<(), Fail> {
 }
 
 #[test]
-fn a_directory_or_no_file_is_a_fault(rt: HostRuntime) -> Result<(), Fail> {
-    static PATHS: [&str; 4] = ["/", "/no/such/file", "", "/etc\0/localtime"];
-    let alloc = rt.alloc();
-    for path in &PATHS {
-        let read = read_file(&rt, alloc, path);
+fn no_path_is_a_fault(rt: HostRuntime) -> Result<(), Fail> {
+    for path in ["", "/etc\0/localtime"] {
+        let read = read_file(&rt, rt.alloc(), path);
         assert!(rt; matches!(read, Err(ReadFault::Failed(_))), "{path}");
     }
-    assert!(rt; read_file(&rt, alloc, "/dev/null")?.is_empty());
+    assert!(rt; read_file(&rt, rt.alloc(), "/dev/null")?.is_empty());
     Ok(())
 }
 
@@ -58,13 +56,25 @@ static FAULTS: [(&str, &str); 3] = [
     ("/", "Is a directory (os error 21)"),
 ];
 
+/// Nothing was read, for this reason.
+fn expect_fault(
+    rt: &impl Abort,
+    alloc: Global,
+    read: Result<Vec<u8>, ReadFault>,
+    text: &str,
+) -> Result<(), Fail> {
+    let fault = read.err().ok_or("read")?;
+    let printed = format!(in alloc; "{fault}")?;
+    expect_eq(rt, &printed.as_str(), &text);
+    Ok(())
+}
+
 #[test]
 fn a_fault_has_the_text_of_the_system(rt: HostRuntime) -> Result<(), Fail> {
     let alloc = rt.alloc();
     for (path, text) in &FAULTS {
-        let fault = read_file(&rt, alloc, path).err().ok_or("read")?;
-        let printed = format!(in alloc; "{fault}")?;
-        expect_eq(&rt, &printed.as_str(), text);
+        expect_fault(&rt, alloc, read_file(&rt, alloc, path), text)?;
+        expect_fault(&rt, alloc, read_file_up_to(&rt, alloc, 10, path), text)?;
     }
     Ok(())
 }
@@ -90,34 +100,17 @@ fn each_error_of_opening_has_its_own_text(rt: HostRuntime) -> Result<(), Fail> {
     Ok(())
 }
 
-#[test]
-fn the_settings_take_it(rt: HostRuntime) -> Result<(), Fail> {
-    let alloc = rt.alloc();
-    let types = [LocalTimeType::new(-36_000, false, Some(b"HST"))?];
-    let settings = TimeZoneSettings::new(&["/no/such"], |path: &str| read_file(&rt, alloc, path));
-    let directory = settings.parse_posix_tz(alloc, ":/");
-    assert!(rt; matches!(directory, Err(Error::Io(_))));
-    let zone = settings.parse_posix_tz(alloc, "HST10")?;
-    expect_eq(&rt, &zone.as_ref().local_time_types(), &types.as_slice());
-    Ok(())
-}
-
 /// A limit, and the text that refuses a file at it; none where the file is read whole.
 type Limit = (usize, Option<&'static str>);
 
-/// A file at the path, of this many lines of three bytes, is read whole or refused, at each of the
-/// limits.
+/// A file at the path, of 70,002 bytes, is read whole or refused, at each of the limits.
 fn expect_up_to<R: Files + Abort>(
     rt: &R,
     alloc: Global,
     path: &str,
-    lines: u64,
     rows: &[Limit],
 ) -> Result<(), Fail> {
-    let mut bytes = Vec::new(alloc);
-    for _ in 0..lines {
-        bytes.extend_from_slice(b"tz\n")?;
-    }
+    let bytes = b"tz\n".repeat(alloc, 23_334)?;
     fs::write(rt, path, bytes.as_slice())?;
     for (limit, refusal) in rows {
         match read_file_up_to(rt, alloc, *limit, path) {
@@ -135,70 +128,29 @@ fn expect_up_to<R: Files + Abort>(
     Ok(())
 }
 
-/// A file of 6003 bytes.
 #[test]
 fn a_file_is_read_up_to_a_limit(rt: HostRuntime) -> Result<(), Fail> {
-    static ROWS: [Limit; 8] = [
+    static ROWS: [Limit; 9] = [
         (0, Some("file is longer than 0 bytes")),
         (1, Some("file is longer than 1 bytes")),
         (1999, Some("file is longer than 1999 bytes")),
-        (2000, Some("file is longer than 2000 bytes")),
-        (6002, Some("file is longer than 6002 bytes")),
-        (6003, None),
-        (6004, None),
-        (usize::MAX, None),
-    ];
-    let alloc = rt.alloc();
-    let name = format!(in alloc; "tz-read-file-up-to-{}", process::id(rt.process()))?;
-    let path = env::temp_dir(&rt)?.join(alloc, name.as_str())?;
-    expect_up_to(&rt, alloc, path.as_str(), 2001, &ROWS)
-}
-
-/// A file of 70,002 bytes, which is longer than a number of 16 bits.
-#[test]
-fn a_long_file_is_read_up_to_a_longer_limit(rt: HostRuntime) -> Result<(), Fail> {
-    static ROWS: [Limit; 5] = [
         (65_536, Some("file is longer than 65536 bytes")),
         (70_001, Some("file is longer than 70001 bytes")),
         (70_002, None),
         (70_003, None),
         (100_000, None),
+        (usize::MAX, None),
     ];
     let alloc = rt.alloc();
-    let name = format!(in alloc; "tz-read-long-file-up-to-{}", process::id(rt.process()))?;
+    let name = format!(in alloc; "tz-read-file-up-to-{}", process::id(rt.process()))?;
     let path = env::temp_dir(&rt)?.join(alloc, name.as_str())?;
-    expect_up_to(&rt, alloc, path.as_str(), 23_334, &ROWS)
+    expect_up_to(&rt, alloc, path.as_str(), &ROWS)
 }
 
 #[test]
-fn a_fault_up_to_a_limit_is_that_of_the_system(rt: HostRuntime) -> Result<(), Fail> {
+fn devices_are_read_up_to_a_limit(rt: HostRuntime) -> Result<(), Fail> {
     let alloc = rt.alloc();
-    for (path, text) in &FAULTS {
-        let fault = read_file_up_to(&rt, alloc, 10, path).err().ok_or("read")?;
-        let printed = format!(in alloc; "{fault}")?;
-        expect_eq(&rt, &printed.as_str(), text);
-    }
     assert!(rt; read_file_up_to(&rt, alloc, 0, "/dev/null")?.is_empty());
-    let endless = read_file_up_to(&rt, alloc, 100_000, "/dev/zero")
-        .err()
-        .ok_or("read")?;
-    let printed = format!(in alloc; "{endless}")?;
-    expect_eq(&rt, &printed.as_str(), &"file is longer than 100000 bytes");
-    Ok(())
-}
-
-#[test]
-fn names_take_it(rt: HostRuntime) -> Result<(), Fail> {
-    let alloc = rt.alloc();
-    let reader = |path: &str| read_file_up_to(&rt, alloc, 200_000, path);
-    let unknown = TimeZone::named(alloc, reader, "No/Such_Zone")
-        .err()
-        .ok_or("read")?;
-    let printed = format!(in alloc; "{unknown}")?;
-    expect_eq(
-        &rt,
-        &printed.as_str(),
-        &"no time zone has the name No/Such_Zone",
-    );
-    Ok(())
+    let endless = read_file_up_to(&rt, alloc, 100_000, "/dev/zero");
+    expect_fault(&rt, alloc, endless, "file is longer than 100000 bytes")
 }

@@ -11,66 +11,34 @@ use tz_zone::timezone::{LeapSecond, LocalTimeType, TimeZoneRef, Transition};
 const DAY: i64 = 86_400;
 
 /// When the first transition comes, and two distances that follow in turn.
-struct Distances {
-    first: i64,
-    short: i64,
-    long: i64,
-}
+type Distances = (i64, i64, i64);
 
 /// The least and the greatest number at which a place is guessed, and the numbers beside them.
 static COUNTS: [u32; 4] = [8, 9, 1024, 1025];
 
 static DISTANCES: [Distances; 7] = [
     // All a second apart: the guess lies near the end.
-    Distances {
-        first: 1_000_000,
-        short: 1,
-        long: 1,
-    },
+    (1_000_000, 1, 1),
     // A half year apart, as the guess has it.
-    Distances {
-        first: -1_000_000_000,
-        short: 15_778_476,
-        long: 15_778_476,
-    },
+    (-1_000_000_000, 15_778_476, 15_778_476),
     // Two in each year, as in New York.
-    Distances {
-        first: 1_000_000,
-        short: 127 * DAY,
-        long: 238 * DAY,
-    },
+    (1_000_000, 127 * DAY, 238 * DAY),
     // Two in each lunar year, as in Casablanca.
-    Distances {
-        first: 1_000_000,
-        short: 35 * DAY,
-        long: 319 * DAY,
-    },
+    (1_000_000, 35 * DAY, 319 * DAY),
     // Ten years apart: the guess lies before the first place.
-    Distances {
-        first: 1_000_000,
-        short: 3652 * DAY,
-        long: 3653 * DAY,
-    },
+    (1_000_000, 3652 * DAY, 3653 * DAY),
     // From the least time on.
-    Distances {
-        first: i64::MIN + 1,
-        short: 127 * DAY,
-        long: 238 * DAY,
-    },
+    (i64::MIN + 1, 127 * DAY, 238 * DAY),
     // Up to the greatest time.
-    Distances {
-        first: i64::MAX - 300_000_000,
-        short: 1,
-        long: 2,
-    },
+    (i64::MAX - 300_000_000, 1, 2),
 ];
 
 /// Few transitions over all times: the distance to the last one does not fit an `i64`.
-static OVER_ALL_TIMES: Distances = Distances {
-    first: -9_000_000_000_000_000_000,
-    short: 2_000_000_000_000_000_000,
-    long: 2_200_000_000_000_000_000,
-};
+static OVER_ALL_TIMES: Distances = (
+    -9_000_000_000_000_000_000,
+    2_000_000_000_000_000_000,
+    2_200_000_000_000_000_000,
+);
 
 /// Transitions to types 1, 2 and 0 in turn.
 fn transitions_at<A: Allocator + Copy>(
@@ -79,14 +47,10 @@ fn transitions_at<A: Allocator + Copy>(
     distances: &Distances,
 ) -> Result<Vec<Transition, A>, AllocError> {
     let mut transitions = Vec::new(alloc);
-    let mut unix_leap_time = distances.first;
+    let (mut unix_leap_time, short, long) = *distances;
     for i in 0..count {
         transitions.push(Transition::new(unix_leap_time, (i as usize + 1) % 3))?;
-        let distance = if i % 2 == 0 {
-            distances.short
-        } else {
-            distances.long
-        };
+        let distance = if i % 2 == 0 { short } else { long };
         unix_leap_time = unix_leap_time.saturating_add(distance);
     }
     Ok(transitions)

@@ -1,6 +1,6 @@
 //! Leap times and effects around the leap seconds up to 2016, and of a table that begins later.
 
-use crate::expect::{expect_eq, expect_eq_at};
+use crate::expect::expect_eq_at;
 use std::process::Abort;
 use tz_base::error::TzError;
 use tz_samples::instants::LEAP_TIMES;
@@ -77,30 +77,6 @@ fn the_leap_second_of_2005(rt: HostRuntime) {
     let leap_seconds = leap_seconds_to_2016();
     expect_leap_times(&rt, &leap_seconds, &LEAPS);
     expect_effects(&rt, &leap_seconds, &EFFECTS);
-}
-
-#[test]
-fn every_leap_second_to_2016(rt: HostRuntime) {
-    static LEAP_STEPS: [(i64, i64); 3] = [(-1, -1), (0, 1), (1, 2)];
-    static EFFECT_STEPS: [(i64, i64); 4] = [(-1, -1), (0, 0), (1, 0), (2, 1)];
-    let leap_seconds = leap_seconds_to_2016();
-    for (earlier, leap_time) in LEAP_TIMES.iter().enumerate() {
-        let instant = leap_time.wrapping_sub(earlier as i64);
-        for (step, unix_leap_step) in &LEAP_STEPS {
-            expect_eq(
-                &rt,
-                &leap_of(&leap_seconds, instant.wrapping_add(*step)).ok(),
-                &Some(leap_time.wrapping_add(*unix_leap_step)),
-            );
-        }
-        for (unix_leap_step, step) in &EFFECT_STEPS {
-            expect_eq(
-                &rt,
-                &effect_of(&leap_seconds, leap_time.wrapping_add(*unix_leap_step)).ok(),
-                &Some(instant.wrapping_add(*step)),
-            );
-        }
-    }
 }
 
 /// Before the start of the table there is no leap time, and its first effect is at the start.

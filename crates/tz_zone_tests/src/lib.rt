@@ -1,11 +1,15 @@
-//! Tests of zones, from TZif files, TZ strings, settings and parts: what is refused, looks, leap
-//! times, segments and changes.
+//! Tests of the calendar, of errors and of rules, and of zones from TZif files, TZ strings, settings
+//! and parts: what is refused, looks, leap times, segments and changes.
 #![tactic(auto)]
 
+#[cfg(test)]
+mod calendar;
 #[cfg(test)]
 mod changes;
 #[cfg(test)]
 mod clocks;
+#[cfg(test)]
+mod errors;
 #[cfg(test)]
 mod expect;
 #[cfg(test)]
@@ -19,11 +23,13 @@ mod looks;
 #[cfg(test)]
 mod owned_zones;
 #[cfg(test)]
+mod refusing;
+#[cfg(test)]
+mod rules;
+#[cfg(test)]
 mod segments;
 #[cfg(test)]
 mod settings;
-#[cfg(test)]
-mod spans;
 #[cfg(test)]
 mod tz_files;
 #[cfg(test)]

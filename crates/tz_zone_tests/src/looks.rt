@@ -1,33 +1,12 @@
 //! How many looks a lookup takes.
 
 use crate::expect::{expect_eq, expect_eq_at};
-use std::alloc::{AllocError, Allocator, Global};
+use std::alloc::Global;
 use std::process::Abort;
 use std::test::Fail;
 use tz_base::error::TzError;
-use tz_zone::inner;
-use tz_zone::timezone::{LeapSecond, LocalTimeType, TimeZoneRef, Transition};
-
-/// This many transitions, a million seconds apart from 0 on, to types 0 and 1 in turn.
-fn transitions_in_turn<A: Allocator + Copy>(
-    alloc: A,
-    count: u32,
-) -> Result<Vec<Transition, A>, AllocError> {
-    let mut transitions = Vec::new(alloc);
-    for i in 0..count {
-        let unix_leap_time = i64::from(i) * 1_000_000;
-        transitions.push(Transition::new(unix_leap_time, i as usize % 2))?;
-    }
-    Ok(transitions)
-}
-
-/// The types of offset 0 and of an hour.
-fn two_types() -> Result<[LocalTimeType; 2], TzError> {
-    Ok([
-        LocalTimeType::with_ut_offset(0)?,
-        LocalTimeType::with_ut_offset(3600)?,
-    ])
-}
+use tz_samples::zones::{hour_apart, transitions_in_turn};
+use tz_zone::timezone::{LeapSecond, TimeZoneRef};
 
 /// The looks of a lookup, which finds what the call without a count finds.
 fn looks_at(rt: &impl Abort, zone: &TimeZoneRef<'_>, unix_time: i64) -> u64 {
@@ -45,26 +24,12 @@ fn expect_between(rt: &impl Abort, looks: u64, least: u64, greatest: u64) {
 
 #[test]
 fn a_thousand_transitions(rt: HostRuntime) -> Result<(), Fail> {
-    let types = two_types()?;
+    let types = hour_apart()?;
     let transitions = transitions_in_turn(rt.alloc(), 1024)?;
     let zone = TimeZoneRef::new(&transitions, &types, &[], &None)?;
     let (answer, looks) = zone.find_local_time_type_counted(499_999_999);
     expect_eq(&rt, &answer.ok(), &types.get(1));
     expect_between(&rt, looks, 1, 13);
-    Ok(())
-}
-
-#[test]
-fn no_transition_and_one(rt: HostRuntime) -> Result<(), Fail> {
-    static UNIX_TIMES: [i64; 5] = [i64::MIN, -1, 0, 1, i64::MAX];
-    let types = two_types()?;
-    let none = TimeZoneRef::new(&[], &types, &[], &None)?;
-    let transitions = transitions_in_turn(rt.alloc(), 1)?;
-    let one = TimeZoneRef::new(&transitions, &types, &[], &None)?;
-    for unix_time in &UNIX_TIMES {
-        expect_eq(&rt, &looks_at(&rt, &none, *unix_time), &0);
-        expect_eq(&rt, &looks_at(&rt, &one, *unix_time), &1);
-    }
     Ok(())
 }
 
@@ -84,7 +49,9 @@ fn range_of_looks(rt: &impl Abort, zone: &TimeZoneRef<'_>) -> (u64, u64) {
 }
 
 /// Numbers of transitions around powers of two, and the greatest number of looks.
-static AROUND_POWERS: [(u32, u64); 18] = [
+static AROUND_POWERS: [(u32, u64); 20] = [
+    (0, 0),
+    (1, 1),
     (3, 4),
     (4, 4),
     (5, 5),
@@ -105,17 +72,18 @@ static AROUND_POWERS: [(u32, u64); 18] = [
     (4097, 15),
 ];
 
-/// Lookups among this many transitions take from one look to this many.
+/// Lookups among this many transitions take from one look to this many, and none among none.
 fn expect_range_of_looks(
     rt: &impl Abort,
     alloc: Global,
     count: u32,
     greatest: u64,
 ) -> Result<(), TzError> {
-    let types = two_types()?;
+    let types = hour_apart()?;
     let transitions = transitions_in_turn(alloc, count)?;
     let zone = TimeZoneRef::new(&transitions, &types, &[], &None)?;
-    expect_eq_at(rt, &count, &range_of_looks(rt, &zone), &(1, greatest));
+    let range = (u64::from(count.min(1)), greatest);
+    expect_eq_at(rt, &count, &range_of_looks(rt, &zone), &range);
     Ok(())
 }
 
@@ -129,7 +97,7 @@ fn around_powers_of_two(rt: HostRuntime) -> Result<(), Fail> {
 
 #[test]
 fn refused_lookups_are_counted(rt: HostRuntime) -> Result<(), Fail> {
-    let types = two_types()?;
+    let types = hour_apart()?;
     let transitions = transitions_in_turn(rt.alloc(), 100)?;
     let leap_seconds = [LeapSecond::new(0, 1)];
     let zone = TimeZoneRef::new(&transitions, &types, &leap_seconds, &None)?;

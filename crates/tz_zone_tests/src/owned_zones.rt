@@ -79,7 +79,8 @@ fn one_type_with_each_growth_refused(rt: HostRuntime) {
     }
 }
 
-/// A clone equals its source and takes its source's allocator: one block for each list that is not empty. The source stays as it is.
+/// A clone equals its source and takes its source's allocator: one block for each list that is not
+/// empty. The source stays as it is.
 #[test]
 fn a_clone_with_each_growth_refused(rt: HostRuntime) -> Result<(), Fail> {
     let source = two_transitions(rt.alloc())?;

@@ -9,16 +9,15 @@ use std::test::Fail;
 use tz_base::error::parse::TzStringError;
 use tz_base::error::{Error, ReadFault};
 use tz_samples::faults::{Fault, named_by_settings as named};
-use tz_samples::files::utc_v1;
+use tz_samples::files::UTC_V1;
 use tz_samples::refusing::Refusing;
-use tz_zone::timezone::{
-    DEFAULT_DIRECTORIES, LocalTimeType, TimeZone, TimeZoneSettings, TransitionRule,
-};
+use tz_zone::timezone::{DEFAULT_DIRECTORIES, TimeZone, TimeZoneSettings};
 
-/// Files in memory, and which of them were asked for: a digit for each, from 1 in their order, or 9 for another path.
+/// Files in memory, and which of them were asked for: a digit for each, from 1 in their order, or 9
+/// for another path.
 ///
-/// The text lists them, separated by `, `: a path, and after a space `UTC` for a file of UTC, `cut` for one that ends too early, `memory` for one
-/// that finds no memory, or `none` for no file.
+/// The text lists them, separated by `, `: a path, and after a space `UTC` for a file of UTC, `cut`
+/// for one that ends too early, `memory` for one that finds no memory, or `none` for no file.
 #[derive(Drop)]
 struct Files<'a> {
     alloc: Global,
@@ -42,7 +41,7 @@ impl Files<'_> {
             if name == path {
                 self.note(digit);
                 return match reply {
-                    "UTC" => Ok(utc_v1(self.alloc)?),
+                    "UTC" => Ok(Vec::from_slice(self.alloc, UTC_V1)?),
                     "cut" => Ok(Vec::from_slice(self.alloc, b"TZ")?),
                     "memory" => Err(ReadFault::Memory(AllocError)),
                     _ => Err(ReadFault::Failed(anyhow!("no file"))),
@@ -79,7 +78,8 @@ fn files_of(alloc: Global, text: &str) -> Files<'_> {
     }
 }
 
-/// The offset and the name of a zone of one type, which is standard time, or the text of the refusal.
+/// The offset and the name of a zone of one type, which is standard time, or the text of the
+/// refusal.
 fn answer_text(alloc: Global, answer: Result<TimeZone, Error>) -> Result<String, AllocError> {
     let zone = match answer {
         Ok(zone) => zone,
@@ -171,6 +171,8 @@ fn directories_are_asked_in_turn(rt: HostRuntime) -> Result<(), Fail> {
 /a/Z/x memory, /b/Z/x UTC | :Z/x | no memory | 1
 /a/Z/x none, /b/Z/x none, /c/Z/x none | :Z/x | file was not found | 123
 /a/Z/x none, /b/Z/x cut, /c/Z/x UTC | Z/x | invalid TZ file: unexpected end of data | 12
+/a/HST10 cut, /b/HST10 UTC | HST10 | invalid TZ file: unexpected end of data | 1
+/a/x none, /b/x none, /c/x memory | :x | no memory | 123
 ";
     expect_answers(&rt, rt.alloc(), Directories::Three, ROWS)
 }
@@ -207,6 +209,8 @@ fn an_absolute_path_is_asked_alone(rt: HostRuntime) -> Result<(), Fail> {
 /x UTC | :/x | 0 UTC | 1
 /x none | /x | invalid TZ string: cannot parse integer from empty string | 1
 /x none | :/x | no file | 1
+/x memory | /x | no memory | 1
+/x memory | :/x | no memory | 1
 nothing | :/x | no file | 9
 nothing | :x | file was not found | 999
 nothing | localtime | no file | 9
@@ -233,28 +237,6 @@ fn local_time_has_its_file(rt: HostRuntime) -> Result<(), Fail> {
     Ok(())
 }
 
-#[test]
-fn the_usual_directories_are_asked(rt: HostRuntime) -> Result<(), Fail> {
-    static TEXT: &str = "/usr/share/zoneinfo/CET-1CEST,M3.5.0,M10.5.0/3 none, \
-        /share/zoneinfo/CET-1CEST,M3.5.0,M10.5.0/3 none, /etc/zoneinfo/CET-1CEST,M3.5.0,M10.5.0/3 none";
-    let files = files_of(rt.alloc(), TEXT);
-    let types = [
-        LocalTimeType::new(3600, false, Some(b"CET"))?,
-        LocalTimeType::new(7200, true, Some(b"CEST"))?,
-    ];
-    let zone = files.ask_usual("CET-1CEST,M3.5.0,M10.5.0/3")?;
-    expect_eq(&rt, &files.asked.get(), &123);
-    expect_eq(&rt, &zone.as_ref().local_time_types(), &types.as_slice());
-    assert!(rt; zone.as_ref().transitions().is_empty());
-    assert!(rt;
-        matches!(
-            zone.as_ref().extra_rule(),
-            Some(TransitionRule::Alternate(_))
-        )
-    );
-    Ok(())
-}
-
 /// Paths of 96 bytes, which need no memory, and longer ones.
 #[test]
 fn long_names_are_asked_in_turn(rt: HostRuntime) -> Result<(), Fail> {
@@ -277,19 +259,8 @@ fn long_names_are_asked_in_turn(rt: HostRuntime) -> Result<(), Fail> {
     Ok(())
 }
 
-#[test]
-fn no_path_is_asked_once_one_has_answered(rt: HostRuntime) -> Result<(), Fail> {
-    static ROWS: &str = "\
-/x memory | /x | no memory | 1
-/x memory | :/x | no memory | 1
-/a/x none, /b/x none, /c/x memory | x | no memory | 123
-/a/x none, /b/x none, /c/x memory | :x | no memory | 123
-/a/HST10 cut, /b/HST10 UTC | HST10 | invalid TZ file: unexpected end of data | 1
-";
-    expect_answers(&rt, rt.alloc(), Directories::Three, ROWS)
-}
-
-/// Only the bare name is that of the machine's local time, and a colon alone is a name without bytes.
+/// Only the bare name is that of the machine's local time, and a colon alone is a name without
+/// bytes.
 #[test]
 fn other_names_are_looked_for(rt: HostRuntime) -> Result<(), Fail> {
     static ROWS: &str = "\
@@ -317,33 +288,15 @@ fn without_directories_only_paths_are_asked(rt: HostRuntime) -> Result<(), Fail>
 }
 
 #[test]
-fn the_usual_directories_are_asked_no_further(rt: HostRuntime) -> Result<(), Fail> {
+fn the_usual_directories_are_asked_in_turn(rt: HostRuntime) -> Result<(), Fail> {
     static ROWS: &str = "\
 /usr/share/zoneinfo/Z/x none, /share/zoneinfo/Z/x UTC, /etc/zoneinfo/Z/x memory | Z/x | 0 UTC | 12
 /usr/share/zoneinfo/Z/x none, /share/zoneinfo/Z/x UTC, /etc/zoneinfo/Z/x memory | :Z/x | 0 UTC | 12
 /usr/share/zoneinfo/Z/x none, /share/zoneinfo/Z/x memory, /etc/zoneinfo/Z/x UTC | Z/x | no memory | 12
 /usr/share/zoneinfo/Z/x none, /share/zoneinfo/Z/x memory, /etc/zoneinfo/Z/x UTC | :Z/x | no memory | 12
-/etc/localtime memory | localtime | no memory | 1
+/usr/share/zoneinfo/A0 none, /share/zoneinfo/A0 none, /etc/zoneinfo/A0 none | A0 | 0 A | 123
 ";
     expect_answers(&rt, rt.alloc(), Directories::Usual, ROWS)
-}
-
-#[test]
-fn local_time_is_refused(rt: HostRuntime) -> Result<(), Fail> {
-    static ROWS: [(&str, &str); 3] = [
-        (
-            "/etc/localtime cut",
-            "invalid TZ file: unexpected end of data",
-        ),
-        ("/etc/localtime memory", "no memory"),
-        ("/etc/localtime none", "no file"),
-    ];
-    for (text, refusal) in &ROWS {
-        let files = files_of(rt.alloc(), text);
-        expect_text(&rt, rt.alloc(), text, files.ask_local(), refusal)?;
-        expect_eq_at(&rt, text, &files.asked.get(), &1);
-    }
-    Ok(())
 }
 
 /// Texts whose paths are longer than those that need no memory.
@@ -387,7 +340,8 @@ impl Call {
     }
 }
 
-/// Each growth is refused in turn: the answer is an allocation failure or the zone, and the zone once none is refused.
+/// Each growth is refused in turn: the answer is an allocation failure or the zone, and the zone
+/// once none is refused.
 fn expect_zone(rt: &impl Abort, alloc: Global, call: Call) -> Result<(), Fail> {
     let ample = call.answer(alloc, alloc)?;
     let mut refusals = 0u64;
@@ -407,7 +361,8 @@ fn expect_zone(rt: &impl Abort, alloc: Global, call: Call) -> Result<(), Fail> {
     Ok(())
 }
 
-/// Each growth is refused in turn: the answer is an allocation failure or the fault, and the fault once none is refused.
+/// Each growth is refused in turn: the answer is an allocation failure or the fault, and the fault
+/// once none is refused.
 fn expect_refusal(rt: &impl Abort, alloc: Global, call: Call, fault: &Fault) {
     let mut refusals = 0u64;
     for left in 0..20u64 {

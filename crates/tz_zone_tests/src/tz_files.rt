@@ -12,7 +12,7 @@ use tz_base::error::parse::{ParseDataError, TzFileError, TzStringError};
 use tz_base::error::timezone::TimeZoneError::InconsistentExtraRule;
 use tz_base::error::timezone::{LocalTimeTypeError, TimeZoneError};
 use tz_samples::faults::{Fault, named};
-use tz_samples::files::{push_header, utc_v1, without_transitions};
+use tz_samples::files::{JERUSALEM_V3, UTC_V1, push_header, without_transitions};
 use tz_samples::instants::LEAP_TIMES;
 use tz_samples::refusing::Refusing;
 use tz_samples::rules::{Day, RuleRow, rule_of};
@@ -75,19 +75,6 @@ fn expect_refusals(
     Ok(())
 }
 
-#[test]
-fn utc_is_read(rt: HostRuntime) -> Result<(), Fail> {
-    let types = [LocalTimeType::new(0, false, Some(b"UTC"))?];
-    let bytes = utc_v1(rt.alloc())?;
-    let zone = TimeZone::from_tz_data(rt.alloc(), &bytes)?;
-    let zone = zone.as_ref();
-    expect_eq(&rt, &zone.local_time_types(), &types.as_slice());
-    assert!(rt; zone.transitions().is_empty());
-    assert!(rt; zone.leap_seconds().is_empty());
-    assert!(rt; zone.extra_rule().is_none());
-    Ok(())
-}
-
 /// The leap seconds are those up to 2017.
 fn expect_leap_seconds(rt: &impl Abort, leap_seconds: &[LeapSecond]) {
     expect_eq(rt, &leap_seconds.len(), &27);
@@ -110,7 +97,8 @@ fn leap_seconds_are_read(rt: HostRuntime) -> Result<(), Fail> {
     Ok(())
 }
 
-/// Each growth is refused in turn: the answer is an allocation failure, until none is refused and it is the zone. The bytes stay as they are.
+/// Each growth is refused in turn: the answer is an allocation failure, until none is refused and
+/// it is the zone. The bytes stay as they are.
 fn expect_memory(rt: &impl Abort, alloc: Global, bytes: &[u8]) -> Result<(), Fail> {
     let lent = Vec::from_slice(alloc, bytes)?;
     let ample = TimeZone::from_tz_data(alloc, bytes)?;
@@ -138,11 +126,12 @@ fn expect_memory(rt: &impl Abort, alloc: Global, bytes: &[u8]) -> Result<(), Fai
 
 #[test]
 fn memory_is_refused(rt: HostRuntime) -> Result<(), Fail> {
-    expect_memory(&rt, rt.alloc(), &utc_v1(rt.alloc())?)?;
+    expect_memory(&rt, rt.alloc(), UTC_V1)?;
     expect_memory(&rt, rt.alloc(), &utc_v1_leap(rt.alloc())?)
 }
 
-/// One type of two hours east in both blocks, a transition in the second one, and a footer after it.
+/// One type of two hours east in both blocks, a transition in the second one, and a footer after
+/// it.
 fn with_footer(alloc: Global, version: u8, footer: &[u8]) -> Result<Vec<u8>, AllocError> {
     let mut bytes = Vec::new(alloc);
     push_header(&mut bytes, b'3', &[0, 0, 0, 0, 1, 4])?;
@@ -152,11 +141,6 @@ fn with_footer(alloc: Global, version: u8, footer: &[u8]) -> Result<Vec<u8>, All
     bytes.extend_from_slice(b"\0\0\0\x1c\x20\0\0IST\0\x01\x01")?;
     bytes.extend_from_slice(footer)?;
     Ok(bytes)
-}
-
-/// Israel from 2038 on.
-fn jerusalem_v3(alloc: Global) -> Result<Vec<u8>, AllocError> {
-    with_footer(alloc, b'3', b"\nIST-2IDT,M3.4.4/26,M10.5.0\n")
 }
 
 /// The transitions of Honolulu's times.
@@ -238,12 +222,12 @@ fn expect_jerusalem(rt: &impl Abort, alloc: Global, bytes: &[u8]) -> Result<(), 
 
 #[test]
 fn jerusalem_is_read(rt: HostRuntime) -> Result<(), Fail> {
-    // The first header's version and the first block's content make no difference, nor does a time of UT.
+    // The first header's version and the first block's content make no difference, nor does a time
+    // of UT.
     static ALTERED: [(usize, u8); 4] = [(4, b'2'), (48, 7), (58, b'4'), (118, 0)];
-    let bytes = jerusalem_v3(rt.alloc())?;
-    expect_jerusalem(&rt, rt.alloc(), &bytes)?;
+    expect_jerusalem(&rt, rt.alloc(), JERUSALEM_V3)?;
     for (place, byte) in &ALTERED {
-        let altered = with_byte(rt.alloc(), &bytes, *place, *byte)?;
+        let altered = with_byte(rt.alloc(), JERUSALEM_V3, *place, *byte)?;
         expect_jerusalem(&rt, rt.alloc(), &altered)?;
     }
     Ok(())
@@ -325,7 +309,7 @@ fn footers_that_are_not_utf_8_are_refused_first(rt: HostRuntime) -> Result<(), F
     static ROWS: [&[u8]; 5] = [
         b"\n\xff\n",
         b"\xff",
-        b"\xffIST-2\n",
+        b"IST-2\xff",
         b"\n:\xff\n",
         b"\n\0\xff\n",
     ];
@@ -337,7 +321,8 @@ fn footers_that_are_not_utf_8_are_refused_first(rt: HostRuntime) -> Result<(), F
     Ok(())
 }
 
-/// The footer's text is refused so where the second header has version 2, and is the rule where it has version 3.
+/// The footer's text is refused so where the second header has version 2, and is the rule where it
+/// has version 3.
 fn expect_extended(
     rt: &impl Abort,
     alloc: Global,
@@ -378,39 +363,8 @@ fn the_second_header_extends_texts(rt: HostRuntime) -> Result<(), Fail> {
 
 #[test]
 fn memory_is_refused_in_later_files(rt: HostRuntime) -> Result<(), Fail> {
-    expect_memory(&rt, rt.alloc(), &jerusalem_v3(rt.alloc())?)?;
+    expect_memory(&rt, rt.alloc(), JERUSALEM_V3)?;
     expect_memory(&rt, rt.alloc(), &honolulu_v2(rt.alloc())?)
-}
-
-/// UTC in the first block, and in the second one with its leap seconds.
-fn utc_v2_leap(alloc: Global) -> Result<Vec<u8>, AllocError> {
-    let mut bytes = Vec::new(alloc);
-    push_header(&mut bytes, b'2', &[0, 0, 0, 0, 1, 4])?;
-    bytes.extend_from_slice(b"\0\0\0\0\0\0UTC\0")?;
-    push_header(&mut bytes, b'2', &[0, 0, 27, 0, 1, 4])?;
-    bytes.extend_from_slice(b"\0\0\0\0\0\0UTC\0")?;
-    let mut correction = 0u32;
-    for time in &LEAP_TIMES {
-        correction = correction.saturating_add(1);
-        bytes.extend_from_slice(&time.to_be_bytes())?;
-        bytes.extend_from_slice(&correction.to_be_bytes())?;
-    }
-    bytes.extend_from_slice(b"\nUTC0\n")?;
-    Ok(bytes)
-}
-
-#[test]
-fn leap_seconds_of_later_files_are_read(rt: HostRuntime) -> Result<(), Fail> {
-    let bytes = utc_v2_leap(rt.alloc())?;
-    let zone = TimeZone::from_tz_data(rt.alloc(), &bytes)?;
-    let earlier = TimeZone::from_tz_data(rt.alloc(), &utc_v1_leap(rt.alloc())?)?;
-    expect_eq(
-        &rt,
-        &zone.as_ref().leap_seconds(),
-        &earlier.as_ref().leap_seconds(),
-    );
-    assert!(rt; zone.as_ref().extra_rule().is_some());
-    Ok(())
 }
 
 mod altered;

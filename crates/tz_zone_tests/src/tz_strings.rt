@@ -3,7 +3,7 @@
 mod altered;
 mod footers;
 
-use crate::expect::{expect_eq, expect_eq_at};
+use crate::expect::expect_eq_at;
 use std::alloc::{AllocError, Global};
 use std::process::Abort;
 use std::test::Fail;
@@ -17,10 +17,9 @@ use tz_base::error::timezone::LocalTimeTypeError::{
     InvalidTimeZoneDesignationChar, InvalidTimeZoneDesignationLength,
 };
 use tz_base::error::timezone::TransitionRuleError::{
-    InconsistentRule, InvalidRuleDayJulianDay, InvalidRuleDayMonth, InvalidRuleDayWeek,
-    InvalidRuleDayWeekDay,
+    InvalidRuleDayJulianDay, InvalidRuleDayMonth, InvalidRuleDayWeek, InvalidRuleDayWeekDay,
 };
-use tz_samples::faults::{Fault, named, named_by_settings};
+use tz_samples::faults::{Fault, named_by_settings};
 use tz_samples::tz_strings::{extended_rule, ordinary_rule};
 use tz_zone::timezone::{LocalTimeType, RuleDay, TransitionRule};
 
@@ -58,8 +57,8 @@ fn expect_refused(rt: &impl Abort, alloc: Global, rows: &[Refusals]) {
     }
 }
 
-/// Ordinary texts, which denote the same as extended ones, and what they denote: the name and the offset from UTC of each type, and then the day and the
-/// time of day of each change, in seconds.
+/// Ordinary texts, which denote the same as extended ones, and what they denote: the name and the
+/// offset from UTC of each type, and then the day and the time of day of each change, in seconds.
 static ORDINARY: &str = "\
 A0 | A 0
 abcdefg+00:00:01 | abcdefg -1
@@ -78,18 +77,6 @@ STD-24:59:59DST,J1,J365 | STD 89999, DST 93599, J1 7200, J365 7200
 fn ordinary_texts_are_rules(rt: HostRuntime) -> Result<(), Fail> {
     expect_rules(&rt, rt.alloc(), ORDINARY, false)?;
     expect_rules(&rt, rt.alloc(), ORDINARY, true)
-}
-
-#[test]
-fn extended_texts_have_wider_day_times(rt: HostRuntime) {
-    static FAULTS: [(&str, Fault); 2] = [
-        ("<-03>3<-02>,M3.5.0/-2,M10.5.0/-1", Fault::Number),
-        ("EST5EDT,0/0,J365/25", Fault::Text(InvalidDayTimeHour)),
-    ];
-    expect_faults(&rt, rt.alloc(), &FAULTS);
-    let inconsistent = extended_rule(rt.alloc(), "A0B0,J59/0:0:1,J60/-24");
-    let fault = Fault::Rule(InconsistentRule);
-    expect_eq(&rt, &inconsistent.err().map(named), &Some(fault));
 }
 
 #[test]
@@ -197,8 +184,8 @@ fn bytes_stand_where_they_have_to(rt: HostRuntime) {
     expect_refused(&rt, rt.alloc(), &ROWS);
 }
 
-/// Texts with several faults: names are looked at once the whole text is read, and a number once its time of day is, from the hours on. The answers
-/// are those of tz-rs.
+/// Texts with several faults: names are looked at once the whole text is read, and a number once
+/// its time of day is, from the hours on. The answers are those of tz-rs.
 #[test]
 fn the_first_fault_that_is_met_is_named(rt: HostRuntime) {
     const CUT: Fault = Fault::Text(ParseData(UnexpectedEof));

@@ -4,28 +4,11 @@
 use crate::expect::{expect_eq, expect_eq_at};
 use std::test::Fail;
 use tz_base::error::TzError;
-use tz_base::error::timezone::TimeZoneError;
 use tz_base::error::timezone::TimeZoneError::InconsistentExtraRule;
+use tz_samples::faults::{Fault, named};
 use tz_samples::tz_strings::extended_rule;
 use tz_samples::utc;
 use tz_zone::timezone::{LocalTimeType, TimeZoneRef, Transition, TransitionRule};
-
-/// A refusal that can be compared.
-#[derive(Clone, Copy, Debug, PartialEq, Eq)]
-enum Fault {
-    Zone(TimeZoneError),
-    OutOfRange,
-    Other,
-}
-
-/// The refusal, to be compared.
-fn named(error: TzError) -> Fault {
-    match error {
-        TzError::TimeZone(part) => Fault::Zone(part),
-        TzError::OutOfRange => Fault::OutOfRange,
-        _ => Fault::Other,
-    }
-}
 
 /// Central European Time, and other rules whose starts and ends are at given times.
 const CENTRAL_EUROPE: &str = "CET-1CEST,M3.5.0,M10.5.0/3";
@@ -48,7 +31,8 @@ fn the_zone_has_the_type_of_its_rule(rt: HostRuntime) -> Result<(), Fail> {
     const DUBLIN: &str = "STD-1DST0,M10.5.0/2,M3.5.0/1";
     const NUUK: &str = "STD3DST2,M3.5.0/-2,M10.5.0/-1";
     const SHORT_GAP: &str = "STD0DST0,100/0,101/-24:01:40";
-    static ROWS: [(&str, i64, i32, bool); 20] = [
+    const AUCKLAND: &str = "NZST-12NZDT,M10.1.0,M3.3.0";
+    static ROWS: [(&str, i64, i32, bool); 24] = [
         (LEAP_DAY, utc!(2000-02-29 00:00:00), 0, true),
         (LEAP_DAY, utc!(2000-03-01 00:00:00), 0, false),
         (LEAP_DAY, utc!(2001-03-01 00:00:00), 0, false),
@@ -74,6 +58,10 @@ fn the_zone_has_the_type_of_its_rule(rt: HostRuntime) -> Result<(), Fail> {
         (SHORT_GAP, utc!(1970-04-10 23:58:20), 0, false),
         (SHORT_GAP, utc!(1970-04-10 23:59:59), 0, false),
         (SHORT_GAP, utc!(1970-04-11 00:00:00), 0, true),
+        (AUCKLAND, utc!(2000-03-18 12:59:59), 46_800, true),
+        (AUCKLAND, utc!(2000-03-18 13:00:00), 43_200, false),
+        (AUCKLAND, utc!(2000-09-30 13:59:59), 43_200, false),
+        (AUCKLAND, utc!(2000-09-30 14:00:00), 46_800, true),
     ];
     let types = [LocalTimeType::utc()];
     for (text, unix_time, ut_offset, is_dst) in &ROWS {
@@ -96,8 +84,8 @@ fn no_rule_of_two_types_answers_at_the_ends(rt: HostRuntime) -> Result<(), Fail>
     for text in &TEXTS {
         let rule = extended_rule(rt.alloc(), text)?;
         for unix_time in [i64::MIN, i64::MAX] {
-            let refused = found_at(&types, &rule, unix_time).map_err(named);
-            assert_eq!(rt; refused, Err(Fault::OutOfRange), "{text} at {unix_time}");
+            let refused = found_at(&types, &rule, unix_time).err().map(named);
+            expect_eq_at(&rt, text, &refused, &Some(Fault::OutOfRange));
         }
     }
     Ok(())
@@ -126,16 +114,15 @@ fn the_last_transition_agrees_with_the_rule(rt: HostRuntime) -> Result<(), Fail>
     ];
     for (unix_leap_time, index, expected) in &ROWS {
         let transitions = [Transition::new(*unix_leap_time, *index)];
-        let fault = match TimeZoneRef::new(&transitions, &types, &[], &rule) {
-            Ok(_) => None,
-            Err(error) => Some(named(error)),
-        };
-        assert_eq!(rt; fault, *expected, "type {index} at {unix_leap_time}");
+        let zone = TimeZoneRef::new(&transitions, &types, &[], &rule);
+        let fault = zone.err().map(named);
+        expect_eq_at(&rt, unix_leap_time, &fault, expected);
     }
     Ok(())
 }
 
-/// The types before a transition at 0 and from there on, of a zone that is gone when they are handed out.
+/// The types before a transition at 0 and from there on, of a zone that is gone when they are
+/// handed out.
 fn lent<'a>(
     transitions: &'a [Transition],
     local_time_types: &'a [LocalTimeType],

@@ -1,5 +1,5 @@
-//! Answers query lines about date times: `tzq -o OFFSET` over the zone with this offset from UTC in seconds, `tzq -f FILE` over that of
-//! a TZif file, `tzq -z STRING` over that of a TZ string.
+//! Answers query lines about date times: `tzq -o OFFSET` over the zone with this offset from UTC in
+//! seconds, `tzq -f FILE` over that of a TZif file, `tzq -z STRING` over that of a TZ string.
 #![tactic(auto)]
 
 use std::env;

@@ -65,6 +65,14 @@ impl Zone for Either {
         }
     }
 
+    fn offset(&self, instant: i64) -> i32 {
+        let utc = NaiveDateTime::from_timestamp_opt(instant, 0).unwrap();
+        match self {
+            Either::Fixed(zone) => zone.local_minus_utc(),
+            Either::Named(zone) => zone.offset_from_utc_datetime(&utc).fix().local_minus_utc(),
+        }
+    }
+
     fn shown(&self, instant: i64, nanoseconds: u32) -> Shown {
         match self {
             Either::Fixed(zone) => shown(&zone.timestamp_opt(instant, nanoseconds).unwrap()),

@@ -62,6 +62,10 @@ impl Zone for Made {
         })
     }
 
+    fn offset(&self, instant: i64) -> i32 {
+        self.0.find_local_time_type(instant).unwrap().ut_offset()
+    }
+
     fn shown(&self, instant: i64, nanoseconds: u32) -> Shown {
         shown(&DateTime::from_timespec(instant, nanoseconds, self.0.as_ref()).unwrap())
     }
@@ -76,13 +80,18 @@ impl Zone for Made {
         let found = DateTime::find(year, month, day, hour, minute, second, nanoseconds, self.0.as_ref()).unwrap().into_inner();
         take(found.len(), None);
         for entry in &found {
-            let entry = match entry {
-                FoundDateTimeKind::Normal(date_time) => Entry::Shown(shown(date_time), name_of(date_time)),
-                FoundDateTimeKind::Skipped { before_transition: before, after_transition: after } => {
-                    Entry::Skipped(shown(before), name_of(before), shown(after), name_of(after))
+            // Handed on in each arm: rustc 1.95 loses an offset where the arms meet, with `lto`.
+            match entry {
+                FoundDateTimeKind::Normal(date_time) => {
+                    let entry = Entry::Shown(shown(date_time), name_of(date_time));
+                    take(found.len(), Some(entry));
                 }
-            };
-            take(found.len(), Some(entry));
+                FoundDateTimeKind::Skipped { before_transition: before, after_transition: after } => {
+                    let (name, other) = (name_of(before), name_of(after));
+                    let entry = Entry::Skipped(shown(before), name, shown(after), other);
+                    take(found.len(), Some(entry));
+                }
+            }
         }
     }
 

@@ -5,6 +5,7 @@ use crate::error::TzError;
 use crate::proved::tz::datetime::FoundDateTimeList as FoundList;
 use crate::proved::tz::inner::find_fields;
 use crate::proved::tz_base::fields::Fields;
+use crate::proved::tz_zone::inner::plain;
 use crate::shim::alloc::Global;
 use crate::timezone::TimeZoneRef;
 use alloc::vec::Vec;
@@ -85,7 +86,7 @@ impl DateTime {
         time_zone_ref: TimeZoneRef<'_>,
     ) -> Result<FoundDateTimeList, TzError> {
         let fields = Fields::new(year, month, month_day, hour, minute, second, nanoseconds);
-        Ok(find_fields(Global, &fields, time_zone_ref)?.into())
+        Ok(find_fields(Global, &fields, &plain(&time_zone_ref))?.into())
     }
 
     /// What [`DateTime::find`] returns for the fields of the local time. The `UtcDateTime` is read as a local time, without an offset.
@@ -99,6 +100,6 @@ impl DateTime {
         local: UtcDateTime,
         time_zone_ref: TimeZoneRef<'_>,
     ) -> Result<FoundDateTimeList, TzError> {
-        Ok(find_fields(Global, local.fields(), time_zone_ref)?.into())
+        Ok(find_fields(Global, local.fields(), &plain(&time_zone_ref))?.into())
     }
 }

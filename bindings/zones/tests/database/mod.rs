@@ -36,6 +36,15 @@ fn version_of(folder: &Path) -> Option<String> {
     Some(version.to_string())
 }
 
+/// The zone of a name's file in the folder TZDIR or /usr/share/zoneinfo, of any version, if there
+/// is one.
+#[allow(dead_code)]
+pub fn zone(name: &str) -> Option<TimeZone> {
+    let folder = env::var_os("TZDIR").unwrap_or_else(|| "/usr/share/zoneinfo".into());
+    let bytes = fs::read(Path::new(&folder).join(name)).ok()?;
+    Some(TimeZone::from_tz_data(&bytes).expect(name))
+}
+
 /// Each name with its constant and the zone of its file; none if the folder is skipped.
 pub fn zones() -> impl Iterator<Item = (&'static str, TimeZoneRef<'static>, TimeZone)> {
     folder().into_iter().flat_map(|folder| {

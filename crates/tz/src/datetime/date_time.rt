@@ -2,8 +2,13 @@
 
 ghost use Rattle.std.specs.Prelude.{◌≡◌};
 ghost use Rattle.tz_base.specs.Fields.{IsValid};
+ghost use Rattle.tz.specs.DateTimes.{IsDateTime};
+ghost use Rattle.tz.specs.Plain.{IsUtcData, date_time_data};
 
 use super::durations::duration_between;
+use super::slot_writer::Slot;
+use super::zone_data_searches::from_timespec;
+use super::{FoundDateTimeKind, UtcDateTime};
 use crate::text_buffer::TextBuffer;
 use std::cmp::Ordering;
 use std::fmt;
@@ -14,7 +19,9 @@ use tz_base::error::TzError;
 use tz_base::error::datetime::DateTimeError;
 use tz_base::fields::{Fields, is_reading, local_reading};
 use tz_base::total_nanoseconds::{timespec, total_nanoseconds};
-use tz_zone::timezone::{LocalTimeType, TimeZoneRef};
+use tz_rule::timezone::LocalTimeType;
+use tz_zone::inner::plain;
+use tz_zone::timezone::TimeZoneRef;
 
 /// A date time with the local time type that shows it, and its Unix time.
 ///
@@ -32,11 +39,23 @@ impl Model for DateTime {
 
     ghost Value = { DateTime };
 
-    ghost view = { λ d. record { fields = d.fields; local_time_type = d.local_time_type; unix_time = d.unix_time } };
+    ghost view = { λ d. record {
+      fields = d.fields;
+      local_time_type = d.local_time_type;
+      unix_time = d.unix_time;
+    } };
 
-    ghost invariant = { λ d. IsDateTime (record { fields = d.fields; local_time_type = d.local_time_type; unix_time = d.unix_time }) };
+    ghost invariant = { λ d. IsDateTime (record {
+      fields = d.fields;
+      local_time_type = d.local_time_type;
+      unix_time = d.unix_time;
+    }) };
 
-    ghost inverse = { λ d. record { fields = d.fields; local_time_type = d.local_time_type; unix_time = d.unix_time } };
+    ghost inverse = { λ d. record {
+      fields = d.fields;
+      local_time_type = d.local_time_type;
+      unix_time = d.unix_time;
+    } };
 }
 
 impl PartialEq for DateTime {
@@ -69,7 +88,8 @@ impl PartialOrd for DateTime {
 
     ghost partial_cmp = { as_partial_cmp moment_cmp };
 
-    ghost laws = { partial_order_from_own_ties (Prim.search (comparing, rules)) (Prim.search (comparing, rules)) };
+    ghost laws = { partial_order_from_own_ties (Prim.search (comparing, rules))
+        (Prim.search (comparing, rules)) };
 
     fn partial_cmp(&self, other: &DateTime) -> Option<Ordering> {
         Some(self.cmp(other))
@@ -104,8 +124,9 @@ impl DateTime {
     ghost use Rattle.tz_zone.specs.ZoneRef.{zone_of};
     ghost use Rattle.tz.specs.DateTimes.{DateTime, IsDateTime, ShowsInstant, IsShowFault, IsLocalFault, total_of, IsNearTotal, IsForwards, IsBackwards, ShowsByClock, IsClockFault, IsTotalFault, IsTotalClockFault, ShowsTotal, ShowsTotalByClock};
 
-    /// The date time with these fields, which the type shows: the month from 1 to 12, the day of the month from 1, the hour from 0 to 23, the minute
-    /// from 0 to 59, the second from 0 to 60 and the nanoseconds below 10^9.
+    /// The date time with these fields, which the type shows: the month from 1 to 12, the day of
+    /// the month from 1, the hour from 0 to 23, the minute from 0 to 59, the second from 0 to 60
+    /// and the nanoseconds below 10^9.
     ///
     /// The date time that clocks nine hours ahead of UTC show on 2024-05-01 at 8:30:
     ///
@@ -118,8 +139,8 @@ impl DateTime {
     ///
     /// # Errors
     ///
-    /// - [`TzError::DateTime`] with the first field that is out of range, in the order of the arguments, or else with `InvalidMonthDay` if the month
-    ///   does not have the day;
+    /// - [`TzError::DateTime`] with the first field that is out of range, in the order of the
+    ///   arguments, or else with `InvalidMonthDay` if the month does not have the day;
     /// - [`TzError::OutOfRange`] if the year in UTC does not fit an `i32`.
     pub fn new(
         year: i32,
@@ -134,11 +155,16 @@ impl DateTime {
         ensures value { IfOk result (λ d. d ≡ record {
           fields = fields_of year month month_day hour minute second nanoseconds;
           local_time_type = local_time_type;
-          unix_time = reading (fields_of year month month_day hour minute second nanoseconds) -ℤ local_time_type.ut_offset;
+          unix_time = reading (fields_of year month month_day hour minute second nanoseconds)
+              -ℤ local_time_type.ut_offset;
         }) }
-        ensures ok { OnOk result (IsValid (fields_of year month month_day hour minute second nanoseconds)) }
-        ensures instant { OnOk result (IsReading (reading (fields_of year month month_day hour minute second nanoseconds) -ℤ local_time_type.ut_offset)) }
-        ensures err { IfErr result (IsLocalFault (fields_of year month month_day hour minute second nanoseconds) local_time_type.ut_offset) }
+        ensures ok { OnOk result
+            (IsValid (fields_of year month month_day hour minute second nanoseconds)) }
+        ensures instant { OnOk result (IsReading (reading
+            (fields_of year month month_day hour minute second nanoseconds)
+            -ℤ local_time_type.ut_offset)) }
+        ensures err { IfErr result (IsLocalFault (fields_of year month month_day hour minute second
+            nanoseconds) local_time_type.ut_offset) }
     {
         let fields = Fields::new(year, month, month_day, hour, minute, second, nanoseconds);
         if let Err(error) = fields.check() {
@@ -156,7 +182,11 @@ impl DateTime {
     pub(super) fn of_fields(fields: &Fields, local_time_type: LocalTimeType, unix_time: i64) -> Self
         requires valid { IsValid fields.now }
         requires instant { unix_time ≡ reading fields.now -ℤ local_time_type.ut_offset }
-        ensures { result ≡ record { fields = fields.now; local_time_type = local_time_type; unix_time = unix_time } }
+        ensures { result ≡ record {
+          fields = fields.now;
+          local_time_type = local_time_type;
+          unix_time = unix_time;
+        } }
     {
         DateTime {
             fields: *fields,
@@ -169,7 +199,8 @@ impl DateTime {
     ///
     /// # Errors
     ///
-    /// - [`TzError::DateTime`] with [`DateTimeError::InvalidNanoseconds`] if there are 10^9 nanoseconds or more;
+    /// - [`TzError::DateTime`] with [`DateTimeError::InvalidNanoseconds`] if there are 10^9
+    ///   nanoseconds or more;
     /// - [`TzError::OutOfRange`] if the year that the type shows does not fit an `i32`.
     pub fn from_timespec_and_local(
         unix_time: i64,
@@ -178,7 +209,8 @@ impl DateTime {
     ) -> Result<Self, TzError>
         ensures ok { IfOk result (ShowsInstant unix_time nanoseconds local_time_type) }
         ensures reads { IfOk result (λ d. IsReading (reading d.fields)) }
-        ensures err { IfErr result (IsShowFault (unix_time +ℤ local_time_type.ut_offset) nanoseconds) }
+        ensures err { IfErr result
+            (IsShowFault (unix_time +ℤ local_time_type.ut_offset) nanoseconds) }
     {
         if nanoseconds >= NANOSECONDS_PER_SECOND {
             return Err(TzError::DateTime(DateTimeError::InvalidNanoseconds));
@@ -196,7 +228,8 @@ impl DateTime {
         requires { nanoseconds < 1000000000 }
         ensures ok { IfOk result (ShowsInstant unix_time nanoseconds local_time_type) }
         ensures reads { OnOk result (IsReading (unix_time +ℤ local_time_type.ut_offset)) }
-        ensures err { IfErr result (λ e. (e ≡ TzError.OutOfRange) × ¬ IsReading (unix_time +ℤ local_time_type.ut_offset)) }
+        ensures err { IfErr result (λ e. (e ≡ TzError.OutOfRange)
+            × ¬ IsReading (unix_time +ℤ local_time_type.ut_offset)) }
     {
         let Some(reading) = local_reading(unix_time, local_time_type.ut_offset()) else {
             return Err(TzError::OutOfRange);
@@ -226,9 +259,10 @@ impl DateTime {
     ///
     /// # Errors
     ///
-    /// - [`TzError::DateTime`] with [`DateTimeError::InvalidNanoseconds`] if there are 10^9 nanoseconds or more;
-    /// - [`TzError::NoAvailableLocalTimeType`] or [`TzError::OutOfRange`] of [`TimeZoneRef::find_local_time_type`] if the clock has no type at the
-    ///   instant;
+    /// - [`TzError::DateTime`] with [`DateTimeError::InvalidNanoseconds`] if there are 10^9
+    ///   nanoseconds or more;
+    /// - [`TzError::NoAvailableLocalTimeType`] or [`TzError::OutOfRange`] of
+    ///   [`TimeZoneRef::find_local_time_type`] if the clock has no type at the instant;
     /// - [`TzError::OutOfRange`] if the year that the clock shows does not fit an `i32`.
     #[inline(always)]
     pub fn from_timespec(
@@ -236,18 +270,17 @@ impl DateTime {
         nanoseconds: u32,
         time_zone_ref: TimeZoneRef<'_>,
     ) -> Result<Self, TzError>
-        ensures ok { IfOk result (ShowsByClock (zone_of time_zone_ref.entry) unix_time nanoseconds) }
+        ensures ok { IfOk result
+            (ShowsByClock (zone_of time_zone_ref.entry) unix_time nanoseconds) }
         ensures reads { IfOk result (λ d. IsReading (reading d.fields)) }
-        ensures err { IfErr result (IsClockFault (zone_of time_zone_ref.entry) unix_time nanoseconds) }
+        ensures err { IfErr result
+            (IsClockFault (zone_of time_zone_ref.entry) unix_time nanoseconds) }
     {
-        if nanoseconds >= NANOSECONDS_PER_SECOND {
-            return Err(TzError::DateTime(DateTimeError::InvalidNanoseconds));
-        }
-        let local_time_type = time_zone_ref.find_local_time_type(unix_time)?;
-        DateTime::shown_by(unix_time, nanoseconds, *local_time_type)
+        from_timespec(unix_time, nanoseconds, &plain(&time_zone_ref))
     }
 
-    /// The date time that the type shows a number of nanoseconds after 1970-01-01T00:00:00Z, or before it if the number is negative.
+    /// The date time that the type shows a number of nanoseconds after 1970-01-01T00:00:00Z, or
+    /// before it if the number is negative.
     ///
     /// # Errors
     ///
@@ -266,7 +299,8 @@ impl DateTime {
         DateTime::shown_by(unix_time, nanoseconds, local_time_type)
     }
 
-    /// The date time that the zone's clock shows a number of nanoseconds after 1970-01-01T00:00:00Z, or before it if the number is negative.
+    /// The date time that the zone's clock shows a number of nanoseconds after
+    /// 1970-01-01T00:00:00Z, or before it if the number is negative.
     ///
     /// # Errors
     ///
@@ -276,8 +310,10 @@ impl DateTime {
         total_nanoseconds: i128,
         time_zone_ref: TimeZoneRef<'_>,
     ) -> Result<Self, TzError>
-        ensures ok { IfOk result (ShowsTotalByClock (zone_of time_zone_ref.entry) total_nanoseconds) }
-        ensures err { IfErr result (IsTotalClockFault (zone_of time_zone_ref.entry) total_nanoseconds) }
+        ensures ok { IfOk result
+            (ShowsTotalByClock (zone_of time_zone_ref.entry) total_nanoseconds) }
+        ensures err { IfErr result
+            (IsTotalClockFault (zone_of time_zone_ref.entry) total_nanoseconds) }
     {
         let Some((unix_time, nanoseconds)) = timespec(total_nanoseconds) else {
             return Err(TzError::OutOfRange);
@@ -291,13 +327,16 @@ impl DateTime {
     ///
     /// Those of [`DateTime::from_timespec`] at an instant with valid nanoseconds.
     pub fn project(&self, time_zone_ref: TimeZoneRef<'_>) -> Result<Self, TzError>
-        ensures ok { IfOk result (ShowsByClock (zone_of time_zone_ref.entry) self.now.unix_time self.now.fields.nanoseconds) }
-        ensures err { IfErr result (IsClockFault (zone_of time_zone_ref.entry) self.now.unix_time self.now.fields.nanoseconds) }
+        ensures ok { IfOk result (ShowsByClock (zone_of time_zone_ref.entry) self.now.unix_time
+            self.now.fields.nanoseconds) }
+        ensures err { IfErr result (IsClockFault (zone_of time_zone_ref.entry) self.now.unix_time
+            self.now.fields.nanoseconds) }
     {
         DateTime::from_timespec(self.unix_time, self.fields.nanoseconds, time_zone_ref)
     }
 
-    /// What the zone's clock shows at the current time, which the caller passes as Unix seconds and nanoseconds below a second.
+    /// What the zone's clock shows at the current time, which the caller passes as Unix seconds and
+    /// nanoseconds below a second.
     ///
     /// What clocks of a zone show now, by the system's clock:
     ///
@@ -317,8 +356,10 @@ impl DateTime {
         nanoseconds: u32,
         time_zone_ref: TimeZoneRef<'_>,
     ) -> Result<Self, TzError>
-        ensures ok { IfOk result (ShowsByClock (zone_of time_zone_ref.entry) unix_time nanoseconds) }
-        ensures err { IfErr result (IsClockFault (zone_of time_zone_ref.entry) unix_time nanoseconds) }
+        ensures ok { IfOk result
+            (ShowsByClock (zone_of time_zone_ref.entry) unix_time nanoseconds) }
+        ensures err { IfErr result
+            (IsClockFault (zone_of time_zone_ref.entry) unix_time nanoseconds) }
     {
         DateTime::from_timespec(unix_time, nanoseconds, time_zone_ref)
     }
@@ -449,8 +490,8 @@ impl fmt::Debug for DateTime {
     }
 }
 
-/// Prints `year-MM-DDThh:mm:ss.nnnnnnnnn` and `Z` or the offset, as `+hh:mm`, with `:ss` where it has seconds. The format's
-/// width plays no part. (ISO 8601-1, 5.4.2)
+/// Prints `year-MM-DDThh:mm:ss.nnnnnnnnn` and `Z` or the offset, as `+hh:mm`, with `:ss` where it
+/// has seconds. The format's width plays no part. (ISO 8601-1, 5.4.2)
 impl fmt::Display for DateTime {
     ghost use Rattle.std.specs.Prelude.{Some};
     ghost use Rattle.tz.specs.PrintedText.{printed_text};
@@ -473,4 +514,81 @@ pub fn fields_of(date_time: &DateTime) -> &Fields
     ensures valid { IsValid result.now }
 {
     date_time.fields()
+}
+
+/// The data of a [`UtcDateTime`], laid out as that is.
+#[repr(C)]
+#[derive(Clone, Copy)]
+pub struct UtcData {
+    /// The fields.
+    pub fields: Fields,
+    /// Their reading.
+    pub unix_time: i64,
+}
+
+/// The data of a [`DateTime`], laid out as that is.
+#[repr(C)]
+#[derive(Clone, Copy)]
+pub struct DateTimeData {
+    /// The fields.
+    pub fields: Fields,
+    /// The type that shows them.
+    pub local_time_type: LocalTimeType,
+    /// Its Unix time.
+    pub unix_time: i64,
+}
+
+/// The data of a [`FoundDateTimeKind`].
+#[repr(C)]
+#[derive(Clone, Copy)]
+pub struct FoundData {
+    /// Whether the clock was set forward over the date time.
+    pub is_skipped: bool,
+    /// The date time, or the one before the jump.
+    pub before: DateTimeData,
+    /// The date time, or the one after the jump.
+    pub after: DateTimeData,
+}
+
+impl UtcData {
+    /// The data of a date time.
+    #[inline(always)]
+    pub fn of(date_time: &UtcDateTime) -> Self
+        ensures fields { result.fields ≡ date_time.now }
+        ensures value { IsUtcData result }
+    {
+        UtcData {
+            fields: *date_time.fields(),
+            unix_time: date_time.unix_time(),
+        }
+    }
+}
+
+impl DateTimeData {
+    /// The data of a date time.
+    #[inline(always)]
+    pub fn of(date_time: &DateTime) -> Self
+        ensures value { result ≡ date_time_data date_time.now }
+        ensures sound { IsDateTime date_time.now }
+    {
+        DateTimeData {
+            fields: *date_time.fields(),
+            local_time_type: *date_time.local_time_type(),
+            unix_time: date_time.unix_time(),
+        }
+    }
+}
+
+impl Slot for FoundData {
+    ghost use Rattle.tz.specs.Plain.{found_data};
+
+    ghost holding = { found_data };
+
+    #[inline(always)]
+    fn set(&mut self, found: &FoundDateTimeKind) {
+        let (before, after) = found.sides();
+        self.is_skipped = matches!(found, FoundDateTimeKind::Skipped { .. });
+        self.before = DateTimeData::of(before);
+        self.after = DateTimeData::of(after);
+    }
 }

@@ -1,4 +1,5 @@
-//! The date times of the entries that a search finds: their fields are those that were searched for, and those of a jump are what both types show.
+//! The date times of the entries that a search finds: their fields are those that were searched
+//! for, and those of a jump are what both types show.
 
 use super::entry_takers::{DateTimeList, EntryTaker};
 use super::{DateTime, FoundDateTimeKind};

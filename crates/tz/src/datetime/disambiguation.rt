@@ -1,22 +1,21 @@
 //! Which date time a local time means, by a choice for gaps and folds.
 
 ghost use Rattle.std.specs.Prelude.{◌≡◌, IfOk, IfErr, OnOk};
-ghost use Rattle.tz_base.specs.Fields.{IsValid};
-ghost use Rattle.tz.specs.Summaries.{IsLookedUpAt, shown_entry_of};
-ghost use Rattle.tz.specs.declared.datetime.found.FoundDateTimeKind.TheVariants.{Normal};
+ghost use Rattle.tz_base.specs.Fields.{IsValid, reading};
+ghost use Rattle.tz.specs.DateTimes.{ShowsByClock, IsClockFault};
+ghost use Rattle.tz.specs.Ends.{instant_between};
 ghost use Rattle.tz_zone.specs.Clock.{IsClock};
 ghost use Rattle.tz_zone.specs.ZoneOfData.{zone_of_data};
 ghost use Rattle.tz.specs.Found.{EachCanBeMade};
 ghost use Rattle.tz.specs.Meanings.{IsMeaning, IsMeaningFault};
 
-use super::entry_takers::DateTimeList;
-use super::zone_data_searches::{from_timespec, search_data};
-use super::{DateTime, FoundDateTimeKind, UtcDateTime};
-use std::alloc::AllocError;
+use super::ends::{Entry, meant_in};
+use super::zone_data_searches::from_timespec;
+use super::{DateTime, UtcDateTime};
 use tz_base::error::TzError;
 use tz_base::fields::Fields;
-use tz_zone::inner::ZoneData;
-use tz_zone::timezone::TimeZoneRef;
+use tz_zone::inner::{ZoneData, plain};
+use tz_zone::timezone::{LocalTimeType, TimeZoneRef};
 
 /// Which date time a local time means if clocks are set forward over it or show it more than once.
 ///
@@ -27,118 +26,53 @@ use tz_zone::timezone::TimeZoneRef;
 /// | `Later` | the last instant | as much later: 2:30 becomes 3:30 |
 /// | `Reject` | none | none |
 ///
-/// If clocks show a local time exactly once and are not set forward over it, all choices mean that. If they do both, as when they are set back soon
-/// after, `Compatible` means the first instant at which they show it, `Earlier` and `Later` the first and the last entry of
+/// If clocks show a local time exactly once and are not set forward over it, all choices mean that.
+/// If they do both, as when they are set back soon after, `Compatible` means the first instant at
+/// which they show it, `Earlier` and `Later` the first and the last entry of
 /// [`DateTime::find`](super::DateTime::find), and `Reject` none.
 #[derive(Clone, Copy, Debug, PartialEq, Eq)]
 pub enum Disambiguation {
-    /// The first instant at which clocks show it, or, in a gap, as much later as clocks are set forward: what calendars do. (RFC 5545, 3.3.5)
+    /// The first instant at which clocks show it, or, in a gap, as much later as clocks are set
+    /// forward: what calendars do. (RFC 5545, 3.3.5)
     Compatible,
-    /// The first entry: an instant at which clocks show it, or, in a gap, as much earlier as clocks are set forward.
+    /// The first entry: an instant at which clocks show it, or, in a gap, as much earlier as clocks
+    /// are set forward.
     Earlier,
-    /// The last entry: an instant at which clocks show it, or, in a gap, as much later as clocks are set forward.
+    /// The last entry: an instant at which clocks show it, or, in a gap, as much later as clocks
+    /// are set forward.
     Later,
-    /// The only instant at which clocks show it, or none if there are several or if clocks are also set forward over it.
+    /// The only instant at which clocks show it, or none if there are several or if clocks are also
+    /// set forward over it.
     Reject,
 }
 
-/// The entries of a search, as far as the one that is meant depends on them.
-#[derive(Clone, Copy)]
-pub(crate) enum Summary {
-    /// There is none.
-    Nothing,
-    /// There is one.
-    One(FoundDateTimeKind),
-    /// There are several: the first, the last, and the first that is shown.
-    Several {
-        first: FoundDateTimeKind,
-        last: FoundDateTimeKind,
-        shown: Option<FoundDateTimeKind>,
-    },
-}
-
-impl Summary {
-    ghost use Rattle.std.specs.Prelude.{◌≡◌, List};
-    ghost use Rattle.tz.specs.Meanings.{entry_meant};
-    ghost use Rattle.tz.specs.Summaries.{IsSummaryOf};
-    ghost use Rattle.tz.specs.declared.datetime.found.FoundDateTimeKind.{FoundDateTimeKind};
-
-    /// The entry that is meant, if there is one.
-    #[inline(always)]
-    pub(super) fn entry(&self, disambiguation: Disambiguation) -> Option<FoundDateTimeKind>
-        ensures { (found : List FoundDateTimeKind) → IsSummaryOf found self.now → result ≡ entry_meant disambiguation found }
-    {
-        match (self, disambiguation) {
-            (Summary::Nothing, _) | (Summary::Several { .. }, Disambiguation::Reject) => None,
-            (Summary::One(found), Disambiguation::Reject) => shown_entry(found),
-            (Summary::One(found), _) => Some(*found),
-            (Summary::Several { first, .. }, Disambiguation::Earlier) => Some(*first),
-            (Summary::Several { last, shown, .. }, Disambiguation::Compatible) => {
-                shown.or(Some(*last))
-            }
-            (Summary::Several { last, .. }, Disambiguation::Later) => Some(*last),
-        }
-    }
-}
-
-impl DateTimeList for Summary {
-    ghost use Rattle.tz.specs.Summaries.{SummarizesMore, summarizes_none, summarizes_more};
-
-    ghost gains = { SummarizesMore };
-
-    ghost takes_memory = { ⊥ };
-
-    ghost none = { summarizes_none };
-
-    ghost more = { summarizes_more };
-
-    #[inline(always)]
-    fn push(&mut self, found: FoundDateTimeKind) -> Result<(), AllocError> {
-        *self = match *self {
-            Summary::Nothing => Summary::One(found),
-            Summary::One(first) => Summary::Several {
-                first,
-                last: found,
-                shown: shown_entry(&first).or(shown_entry(&found)),
-            },
-            Summary::Several { first, shown, .. } => Summary::Several {
-                first,
-                last: found,
-                shown: shown.or(shown_entry(&found)),
-            },
-        };
-        Ok(())
-    }
-}
-
-/// The entry, if the clock shows its date time.
-fn shown_entry(found: &FoundDateTimeKind) -> Option<FoundDateTimeKind>
-    ensures { result ≡ shown_entry_of found.now }
-{
-    match found {
-        FoundDateTimeKind::Normal(_) => Some(*found),
-        FoundDateTimeKind::Skipped { .. } => None,
-    }
-}
-
-/// What an entry means: its date time, or else, in a gap, the instant at which the clock is to be looked up.
-pub(super) fn resolved(
-    entry: &FoundDateTimeKind,
+/// The instant at which the clock is looked up for a jump over the fields.
+#[inline(always)]
+fn lookup_instant(
     fields: &Fields,
     disambiguation: Disambiguation,
-) -> Result<DateTime, i64>
+    before: &LocalTimeType,
+    after: &LocalTimeType,
+) -> i64
     requires { IsValid fields.now }
-    ensures ok { IfOk result (λ d. entry.now ≡ Normal d) }
-    ensures err { IfErr result (IsLookedUpAt disambiguation fields.now entry.now) }
+    ensures { result ≡ instant_between disambiguation (reading fields.now) before.now after.now }
 {
-    if let FoundDateTimeKind::Normal(date_time) = entry {
-        return Ok(*date_time);
-    }
-    let side = match disambiguation {
-        Disambiguation::Earlier => entry.sides().1,
-        _ => entry.sides().0,
+    let local_time_type = match disambiguation {
+        Disambiguation::Earlier => after,
+        _ => before,
     };
-    Err(fields.reading() - i64::from(side.local_time_type().ut_offset()))
+    fields.reading() - i64::from(local_time_type.ut_offset())
+}
+
+/// What the zone's clock shows at a Unix time. It is not inlined, so that the search, which seldom
+/// needs it, is.
+#[cold]
+#[inline(never)]
+fn shown_apart(unix_time: i64, nanoseconds: u32, zone: &ZoneData<'_>) -> Result<DateTime, TzError>
+    ensures ok { IfOk result (ShowsByClock (zone_of_data zone.now) unix_time nanoseconds) }
+    ensures err { IfErr result (IsClockFault (zone_of_data zone.now) unix_time nanoseconds) }
+{
+    from_timespec(unix_time, nanoseconds, zone)
 }
 
 /// The one date time that fields mean, as [`DateTime::find_one`] answers it.
@@ -154,14 +88,16 @@ pub fn find_one(
     ensures err { IfErr result (IsMeaningFault (zone_of_data zone.now) disambiguation fields.now) }
 {
     fields.check()?;
-    let mut summary = Summary::Nothing;
-    search_data(&mut summary, fields, zone)?;
-    let Some(entry) = summary.entry(disambiguation) else {
-        return Ok(None);
-    };
-    match resolved(&entry, fields, disambiguation) {
-        Ok(date_time) => Ok(Some(date_time)),
-        Err(unix_time) => Ok(Some(from_timespec(unix_time, fields.nanoseconds, zone)?)),
+    match meant_in(fields.reading(), disambiguation, zone)? {
+        None => Ok(None),
+        Some(Entry::Shown(unix_time, local_time_type)) => {
+            let date_time = DateTime::of_fields(fields, *local_time_type, unix_time);
+            Ok(Some(date_time))
+        }
+        Some(Entry::Jump(_, before, after)) => {
+            let unix_time = lookup_instant(fields, disambiguation, before, after);
+            Ok(Some(shown_apart(unix_time, fields.nanoseconds, zone)?))
+        }
     }
 }
 
@@ -173,11 +109,12 @@ impl DateTime {
     ghost use Rattle.tz.specs.Found.{EachCanBeMade};
     ghost use Rattle.tz.specs.Meanings.{IsMeaning, IsMeaningFault};
 
-    /// The one date time that a local time means, or `None` if the zone's clock neither shows it nor is set forward over it, or if `Reject` rejects
-    /// it.
+    /// The one date time that a local time means, or `None` if the zone's clock neither shows it
+    /// nor is set forward over it, or if `Reject` rejects it.
     ///
-    /// The fields are in the ranges of [`DateTime::find`]. If the choice means a jump over the local time, the result is what the clock shows at
-    /// another instant, earlier or later. This call does not allocate.
+    /// The fields are in the ranges of [`DateTime::find`]. If the choice means a jump over the
+    /// local time, the result is what the clock shows at another instant, earlier or later. This
+    /// call does not allocate.
     ///
     /// Noon of a date in a zone:
     ///
@@ -208,17 +145,21 @@ impl DateTime {
         disambiguation: Disambiguation,
         time_zone_ref: TimeZoneRef<'_>,
     ) -> Result<Option<Self>, TzError>
-        ensures ok { IfOk result (IsMeaning (zone_of time_zone_ref.entry) disambiguation (fields_of year month month_day hour minute second nanoseconds)) }
-        ensures valid { OnOk result (IsValid (fields_of year month month_day hour minute second nanoseconds)) }
-        ensures made { OnOk result (EachCanBeMade (IsClock (zone_of time_zone_ref.entry)) (fields_of year month month_day hour minute second nanoseconds)) }
-        ensures err { IfErr result (IsMeaningFault (zone_of time_zone_ref.entry) disambiguation (fields_of year month month_day hour minute second nanoseconds)) }
+        ensures ok { IfOk result (IsMeaning (zone_of time_zone_ref.entry) disambiguation
+            (fields_of year month month_day hour minute second nanoseconds)) }
+        ensures valid { OnOk result
+            (IsValid (fields_of year month month_day hour minute second nanoseconds)) }
+        ensures made { OnOk result (EachCanBeMade (IsClock (zone_of time_zone_ref.entry))
+            (fields_of year month month_day hour minute second nanoseconds)) }
+        ensures err { IfErr result (IsMeaningFault (zone_of time_zone_ref.entry) disambiguation
+            (fields_of year month month_day hour minute second nanoseconds)) }
     {
         let fields = Fields::new(year, month, month_day, hour, minute, second, nanoseconds);
-        find_one(&fields, disambiguation, &ZoneData::of(time_zone_ref))
+        find_one(&fields, disambiguation, &plain(&time_zone_ref))
     }
 
-    /// The one date time that a local time means. The local time is passed as a [`UtcDateTime`] with its fields, which serves here as a
-    /// date and a time of day without a zone.
+    /// The one date time that a local time means. The local time is passed as a [`UtcDateTime`]
+    /// with its fields, which serves here as a date and a time of day without a zone.
     ///
     /// The result is that of [`DateTime::find_one`] for these fields.
     ///
@@ -235,7 +176,7 @@ impl DateTime {
     ///     let (year, month, month_day) = (today.year(), today.month(), today.month_day());
     ///     let local = UtcDateTime::new(year, month, month_day, hour, minute, 0, 0)?;
     ///     let day = Duration::from_secs(86_400);
-    ///     // Yesterday's run is still to come where clocks have just been set forward over midnight.
+    ///     // Yesterday's run is still to come where clocks have just been set over midnight.
     ///     for local in [local.checked_sub(day), Some(local), local.checked_add(day)] {
     ///         let local = local.ok_or(TzError::OutOfRange)?;
     ///         match DateTime::from_local(local, Disambiguation::Compatible, zone)? {
@@ -257,8 +198,9 @@ impl DateTime {
     ) -> Result<Option<Self>, TzError>
         ensures ok { IfOk result (IsMeaning (zone_of time_zone_ref.entry) disambiguation local) }
         ensures made { OnOk result (EachCanBeMade (IsClock (zone_of time_zone_ref.entry)) local) }
-        ensures err { IfErr result (IsMeaningFault (zone_of time_zone_ref.entry) disambiguation local) }
+        ensures err { IfErr result
+            (IsMeaningFault (zone_of time_zone_ref.entry) disambiguation local) }
     {
-        find_one(local.fields(), disambiguation, &ZoneData::of(time_zone_ref))
+        find_one(local.fields(), disambiguation, &plain(&time_zone_ref))
     }
 }

@@ -1,4 +1,5 @@
-//! What takes the entries of a search, which are instants that show a reading and jumps over it, and the lists to which they go as date times.
+//! What takes the entries of a search, which are instants that show a reading and jumps over it,
+//! and the lists to which they go as date times.
 
 use super::FoundDateTimeKind;
 use std::alloc::AllocError;
@@ -6,7 +7,7 @@ use tz_base::error::TzError;
 use tz_zone::timezone::LocalTimeType;
 
 /// What takes the entries of a search, in order of time.
-pub trait EntryTaker<'a> {
+pub(crate) trait EntryTaker<'a> {
     ghost use Rattle.std.specs.Prelude.{ℤ, ◌+ℤ◌, List, [], ◌∷◌, OnOk, IfErr};
     ghost use Rattle.tz_base.specs.declared.error.tz_error.TzError.{TzError as Fault};
     ghost use Rattle.tz.specs.Entries.{Entry, Shown, Jump};
@@ -23,7 +24,8 @@ pub trait EntryTaker<'a> {
     /// Takes an instant at which a clock shows the reading in a type.
     fn shown(&mut self, unix_time: i64, local_time_type: &'a LocalTimeType) -> Result<(), TzError>
         requires { takes self.old (unix_time +ℤ local_time_type.now.ut_offset) }
-        ensures ok { OnOk result (gains self.old self.new (Shown unix_time local_time_type.entry.now ∷ [])) }
+        ensures ok { OnOk result
+            (gains self.old self.new (Shown unix_time local_time_type.entry.now ∷ [])) }
         ensures err { IfErr result (λ e. refuses e (Shown unix_time local_time_type.entry.now)) };
 
     /// Takes a jump over the reading: the instant from which on a clock has the second type.
@@ -34,8 +36,11 @@ pub trait EntryTaker<'a> {
         after: &'a LocalTimeType,
     ) -> Result<(), TzError>
         requires { (r : ℤ) × takes self.old r }
-        ensures ok { OnOk result (gains self.old self.new (Jump unix_time before.entry.now after.entry.now ∷ [])) }
-        ensures err { IfErr result (λ e. refuses e (Jump unix_time before.entry.now after.entry.now)) };
+        ensures ok { OnOk result (gains self.old self.new
+            (Jump unix_time before.entry.now after.entry.now
+            ∷ [])) }
+        ensures err { IfErr result
+            (λ e. refuses e (Jump unix_time before.entry.now after.entry.now)) };
 }
 
 /// A list that a search writes to.
@@ -58,5 +63,6 @@ pub(crate) trait DateTimeList {
     ghost none: { (list : Self) → gains list list [] };
 
     /// One gain after another is a gain.
-    ghost more: { (list middle grown : Self) (es fs : List FoundDateTimeKind) → gains list middle es → gains middle grown fs → gains list grown (es ++ fs) };
+    ghost more: { (list middle grown : Self) (es fs : List FoundDateTimeKind) → gains list middle es
+        → gains middle grown fs → gains list grown (es ++ fs) };
 }

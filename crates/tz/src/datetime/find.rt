@@ -3,7 +3,7 @@
 ghost use Rattle.std.specs.Prelude.{◌≡◌, ◌⊎◌, ◌+◌, ◌^◌, ◌<◌, ◌≤◌, List, length, ⊤, IfOk, OnOk};
 ghost use Rattle.tz_base.specs.Fields.{IsValid, reading};
 ghost use Rattle.tz_zone.specs.Clock.{IsClock};
-ghost use Rattle.tz_zone.specs.ZoneRef.{zone_of};
+ghost use Rattle.tz_zone.specs.ZoneOfData.{zone_of_data};
 ghost use Rattle.tz.specs.Found.{IsFound};
 ghost use Rattle.tz.specs.Lists.{found_of};
 ghost use Rattle.tz.specs.Outcomes.{AreLooksOf, IsOutcome};
@@ -16,7 +16,7 @@ use super::{DateTime, FoundDateTimeKind, FoundDateTimeList, FoundDateTimeListRef
 use std::alloc::Allocator;
 use tz_base::error::TzError;
 use tz_base::fields::Fields;
-use tz_zone::inner::{Counted, Transitions, Uncounted, offsets, other_parts_of};
+use tz_zone::inner::{Counted, Transitions, Uncounted, ZoneData, plain};
 use tz_zone::timezone::TimeZoneRef;
 
 /// A search that failed, and the buffer as it left it.
@@ -30,65 +30,71 @@ pub(super) struct Refused<'a> {
 pub fn find_fields<A: Allocator + Copy>(
     alloc: A,
     fields: &Fields,
-    time_zone_ref: TimeZoneRef<'_>,
+    zone: &ZoneData<'_>,
 ) -> Result<FoundDateTimeList<A>, TzError>
-    ensures ok { IfOk result (λ list. IsFound (IsClock (zone_of time_zone_ref.entry)) fields.now (found_of list)) }
-    ensures outcome { IsOutcome (λ e. e) ⊤ (zone_of time_zone_ref.entry) fields.now result }
+    ensures ok { IfOk result (λ list.
+        IsFound (IsClock (zone_of_data zone.now)) fields.now (found_of list)) }
+    ensures outcome { IsOutcome (λ e. e) ⊤ (zone_of_data zone.now) fields.now result }
 {
     let mut list = FoundDateTimeList::new_in(alloc);
-    let mut view = Uncounted::new(time_zone_ref.transitions());
-    find_in(&mut list, fields, &mut view, time_zone_ref)?;
+    let mut view = Uncounted::new(zone.transitions());
+    find_in(&mut list, fields, &mut view, zone)?;
     Ok(list)
 }
 
-/// Adds what [`DateTime::find`] finds of the fields to a list, through a view of the zone's transitions.
+/// Adds what [`DateTime::find`] finds of the fields to a list, through a view of the zone's
+/// transitions.
 #[inline(always)]
 pub(super) fn find_in<L: DateTimeList, V: Transitions>(
     list: &mut L,
     fields: &Fields,
     view: &mut V,
-    time_zone_ref: TimeZoneRef<'_>,
+    zone: &ZoneData<'_>,
 ) -> Result<(), TzError>
-    requires { V.list view.old ≡ (zone_of time_zone_ref).transitions }
+    requires { V.list view.old ≡ (zone_of_data zone.now).transitions }
     ensures ok { OnOk result ((found : List FoundDateTimeKind) × L.gains list.old list.new found
-        × IsFound (IsClock (zone_of time_zone_ref.entry)) fields.now found × (length found ≤ 2 ^ 33)) }
+        × IsFound (IsClock (zone_of_data zone.now)) fields.now found × (length found ≤ 2 ^ 33)) }
     ensures untouched { IsValid fields.now ⊎ (list.new ≡ list.old) }
-    ensures outcome { IsOutcome (λ e. e) L.takes_memory (zone_of time_zone_ref.entry) fields.now result }
-    ensures looks { AreLooksOf (zone_of time_zone_ref.entry) (reading fields.now) (V.looks view.old) (V.next (V.looks view.old)) (V.looks view.new) result }
+    ensures outcome { IsOutcome (λ e. e) L.takes_memory (zone_of_data zone.now) fields.now result }
+    ensures looks { AreLooksOf (zone_of_data zone.now) (reading fields.now) (V.looks view.old)
+        (V.next (V.looks view.old)) (V.looks view.new) result }
 {
+    // For the proof, which bounds the entries by these offsets.
+    let (_least, _greatest) = zone.offsets();
     fields.check()?;
-    let (least, greatest) = offsets(&time_zone_ref);
-    let parts = other_parts_of(&time_zone_ref);
-    search(list, fields, view, parts, least, greatest)
+    search(list, fields, view, zone)
 }
 
 impl DateTime {
-    ghost use Rattle.std.specs.Prelude.{◌≡◌, ◌≢◌, ◌⊎◌, ◌+◌, ◌*◌, ◌^◌, ◌<◌, ◌≤◌, ℕ, List, length, ⊤, IfOk, IfErr, OnOk};
+    ghost use Rattle.std.specs.Prelude.{◌≡◌, ◌⊎◌, ◌+◌, ◌*◌, ◌^◌, ◌<◌, ◌≤◌, ℕ, List, length, ⊤, IfOk, IfErr};
     ghost use Rattle.std.specs.Borrow.{sem};
     ghost use Rattle.tz_base.specs.Fields.{IsValid, reading, fields_of};
     ghost use Rattle.tz_zone.specs.Clock.{IsClock};
+    ghost use Rattle.tz_zone.specs.ZoneOfData.{zone_of_data};
     ghost use Rattle.tz_zone.specs.ZoneRef.{zone_of};
     ghost use Rattle.tz.specs.Windows.{AtMostTakeEffectAround};
-    ghost use Rattle.tz.specs.Found.{EachCanBeMade, IsFound};
+    ghost use Rattle.tz.specs.Found.{IsFound};
     ghost use Rattle.tz.specs.Lists.{found_of, slots_of, count_of, reference_of};
-    ghost use Rattle.tz.specs.FindFaults.{IsFindFault, IsPromised};
     ghost use Rattle.tz.specs.Outcomes.{AreLooksOf, IsOutcome};
     ghost use Rattle.tz.specs.Slots.{filled};
     ghost use Rattle.tz.specs.LentSlots.{RestsIfInvalid};
     ghost use Rattle.tz.specs.declared.datetime.found.FoundDateTimeKind.{FoundDateTimeKind};
 
-    /// All date times at which the zone's clock shows the fields, and the forward jumps over them, in order of Unix time.
+    /// All date times at which the zone's clock shows the fields, and the forward jumps over them,
+    /// in order of Unix time.
     ///
-    /// The month is from 1 to 12, the day of the month from 1, the hour from 0 to 23, the minute from 0 to 59, the second from 0 to 60 and the
-    /// nanoseconds below 10^9. A date time keeps the fields that were passed, second 60 included.
+    /// The month is from 1 to 12, the day of the month from 1, the hour from 0 to 23, the minute
+    /// from 0 to 59, the second from 0 to 60 and the nanoseconds below 10^9. A date time keeps the
+    /// fields that were passed, second 60 included.
     ///
     /// # Errors
     ///
-    /// - [`TzError::DateTime`] with the first field that is out of range, in the order of the arguments, or else with `InvalidMonthDay` if the month
-    ///   does not have the day;
-    /// - [`TzError::OutOfRange`] if an entry is outside the years of an `i32`, as only the local time before or after a jump can be. This cannot
-    ///   happen 200 years or more from both ends of these years, nor three years or more from them if all offsets of the zone are above -25 and below
-    ///   26 hours;
+    /// - [`TzError::DateTime`] with the first field that is out of range, in the order of the
+    ///   arguments, or else with `InvalidMonthDay` if the month does not have the day;
+    /// - [`TzError::OutOfRange`] if an entry is outside the years of an `i32`, as only the local
+    ///   time before or after a jump can be. This cannot happen 200 years or more from both ends of
+    ///   these years, nor three years or more from them if all offsets of the zone are above -25
+    ///   and below 26 hours;
     /// - [`TzError::Memory`] if an allocation for the list fails.
     pub fn find<A: Allocator + Copy>(
         alloc: A,
@@ -101,20 +107,21 @@ impl DateTime {
         nanoseconds: u32,
         time_zone_ref: TimeZoneRef<'_>,
     ) -> Result<FoundDateTimeList<A>, TzError>
-        ensures ok { IfOk result (λ list. IsFound (IsClock (zone_of time_zone_ref.entry)) (fields_of year month month_day hour minute second nanoseconds) (found_of list)) }
-        ensures valid { OnOk result (IsValid (fields_of year month month_day hour minute second nanoseconds)) }
-        ensures made { OnOk result (EachCanBeMade (IsClock (zone_of time_zone_ref.entry)) (fields_of year month month_day hour minute second nanoseconds)) }
-        ensures promised { IsPromised (zone_of time_zone_ref.entry) year → IfErr result (λ e. e ≢ TzError.OutOfRange) }
-        ensures err { IfErr result (IsFindFault ⊤ (IsClock (zone_of time_zone_ref.entry)) (fields_of year month month_day hour minute second nanoseconds)) }
+        ensures ok { IfOk result (λ list. IsFound (IsClock (zone_of time_zone_ref.entry))
+            (fields_of year month month_day hour minute second nanoseconds) (found_of list)) }
+        ensures outcome { IsOutcome (λ e. e) ⊤ (zone_of time_zone_ref.entry)
+            (fields_of year month month_day hour minute second nanoseconds) result }
     {
         let fields = Fields::new(year, month, month_day, hour, minute, second, nanoseconds);
-        find_fields(alloc, &fields, time_zone_ref)
+        find_fields(alloc, &fields, &plain(&time_zone_ref))
     }
 
-    /// What [`DateTime::find`] returns for the fields of the local time. The `UtcDateTime` is read as a local time, without an offset.
+    /// What [`DateTime::find`] returns for the fields of the local time. The `UtcDateTime` is read
+    /// as a local time, without an offset.
     ///
-    /// When an alarm that is set to a local time rings: at the first instant at which clocks show that time or are set forward over it.
-    /// At a jump it rings as many nanoseconds late as `local` has.
+    /// When an alarm that is set to a local time rings: at the first instant at which clocks show
+    /// that time or are set forward over it. At a jump it rings as many nanoseconds late as `local`
+    /// has.
     ///
     /// ```rust
     /// pub fn alarm(
@@ -146,19 +153,19 @@ impl DateTime {
         local: UtcDateTime,
         time_zone_ref: TimeZoneRef<'_>,
     ) -> Result<FoundDateTimeList<A>, TzError>
-        ensures ok { IfOk result (λ list. IsFound (IsClock (zone_of time_zone_ref.entry)) local (found_of list)) }
-        ensures made { OnOk result (EachCanBeMade (IsClock (zone_of time_zone_ref.entry)) local) }
-        ensures promised { IsPromised (zone_of time_zone_ref.entry) local.year → IfErr result (λ e. e ≢ TzError.OutOfRange) }
-        ensures err { IfErr result (IsFindFault ⊤ (IsClock (zone_of time_zone_ref.entry)) local) }
+        ensures ok { IfOk result (λ list. IsFound (IsClock (zone_of time_zone_ref.entry)) local
+            (found_of list)) }
+        ensures outcome { IsOutcome (λ e. e) ⊤ (zone_of time_zone_ref.entry) local result }
     {
-        find_fields(alloc, local.fields(), time_zone_ref)
+        find_fields(alloc, local.fields(), &plain(&time_zone_ref))
     }
 
-    /// Writes what [`DateTime::find`] returns to the slots of a buffer, as far as they go, and counts all entries. The other slots stay as they are.
-    /// This call does not allocate.
+    /// Writes what [`DateTime::find`] returns to the slots of a buffer, as far as they go, and
+    /// counts all entries. The other slots stay as they are. This call does not allocate.
     ///
-    /// The month is from 1 to 12, the day of the month from 1, the hour from 0 to 23, the minute from 0 to 59, the second from 0 to 60 and the
-    /// nanoseconds below 10^9. A date time keeps the fields that were passed, second 60 included.
+    /// The month is from 1 to 12, the day of the month from 1, the hour from 0 to 23, the minute
+    /// from 0 to 59, the second from 0 to 60 and the nanoseconds below 10^9. A date time keeps the
+    /// fields that were passed, second 60 included.
     ///
     /// # Errors
     ///
@@ -174,15 +181,15 @@ impl DateTime {
         nanoseconds: u32,
         time_zone_ref: TimeZoneRef<'_>,
     ) -> Result<FoundDateTimeListRefMut<'a>, TzError>
-        ensures* untouched { sem 𝓛 (RestsIfInvalid reference_of buf.entry (fields_of year month month_day hour minute second nanoseconds) result) }
+        ensures* untouched { sem 𝓛 (RestsIfInvalid reference_of buf.entry
+            (fields_of year month month_day hour minute second nanoseconds) result) }
         ensures same_reference { IfOk result (λ list. reference_of list ≡ buf.entry.ghost_name) }
         ensures ok { IfOk result (λ list. (found : List FoundDateTimeKind)
-            × IsFound (IsClock (zone_of time_zone_ref.entry)) (fields_of year month month_day hour minute second nanoseconds) found
+            × IsFound (IsClock (zone_of time_zone_ref.entry))
+            (fields_of year month month_day hour minute second nanoseconds) found
             × (count_of list ≡ length found) × (slots_of list ≡ filled buf.old found)) }
-        ensures valid { OnOk result (IsValid (fields_of year month month_day hour minute second nanoseconds)) }
-        ensures made { OnOk result (EachCanBeMade (IsClock (zone_of time_zone_ref.entry)) (fields_of year month month_day hour minute second nanoseconds)) }
-        ensures promised { IsPromised (zone_of time_zone_ref.entry) year → IfErr result (λ e. e ≢ TzError.OutOfRange) }
-        ensures err { IfErr result (IsFindFault ⊥ (IsClock (zone_of time_zone_ref.entry)) (fields_of year month month_day hour minute second nanoseconds)) }
+        ensures outcome { IsOutcome (λ e. e) ⊥ (zone_of time_zone_ref.entry)
+            (fields_of year month month_day hour minute second nanoseconds) result }
     {
         // A call and a match: the proof of `untouched` follows these statements.
         match DateTime::listed(
@@ -201,9 +208,11 @@ impl DateTime {
         }
     }
 
-    /// What [`DateTime::find_n`] returns for the fields of the local time. The `UtcDateTime` is read as a local time, without an offset.
+    /// What [`DateTime::find_n`] returns for the fields of the local time. The `UtcDateTime` is
+    /// read as a local time, without an offset.
     ///
-    /// How many instants and jumps a local time has, without allocating: almost always 1, and 2 if clocks show it twice.
+    /// How many instants and jumps a local time has, without allocating: almost always 1, and 2 if
+    /// clocks show it twice.
     ///
     /// ```rust
     /// pub fn count_meanings(zone: TimeZoneRef<'_>, local: UtcDateTime) -> Result<usize, TzError> {
@@ -221,14 +230,13 @@ impl DateTime {
         time_zone_ref: TimeZoneRef<'_>,
     ) -> Result<FoundDateTimeListRefMut<'a>, TzError>
         ensures same_reference { IfOk result (λ list. reference_of list ≡ buf.entry.ghost_name) }
-        ensures ok { IfOk result (λ list. (found : List FoundDateTimeKind) × IsFound (IsClock (zone_of time_zone_ref.entry)) local found
+        ensures ok { IfOk result (λ list. (found : List FoundDateTimeKind)
+            × IsFound (IsClock (zone_of time_zone_ref.entry)) local found
             × (count_of list ≡ length found) × (slots_of list ≡ filled buf.old found)) }
-        ensures made { OnOk result (EachCanBeMade (IsClock (zone_of time_zone_ref.entry)) local) }
-        ensures promised { IsPromised (zone_of time_zone_ref.entry) local.year → IfErr result (λ e. e ≢ TzError.OutOfRange) }
-        ensures err { IfErr result (IsFindFault ⊥ (IsClock (zone_of time_zone_ref.entry)) local) }
+        ensures outcome { IsOutcome (λ e. e) ⊥ (zone_of time_zone_ref.entry) local result }
     {
         let mut view = Uncounted::new(time_zone_ref.transitions());
-        match DateTime::listed_in(buf, local.fields(), &mut view, time_zone_ref) {
+        match DateTime::listed_in(buf, local.fields(), &mut view, &plain(&time_zone_ref)) {
             Ok(list) => Ok(list),
             Err(refused) => Err(refused.fault),
         }
@@ -236,9 +244,10 @@ impl DateTime {
 
     /// What [`DateTime::find_n`] returns, and how many transitions were read.
     ///
-    /// If a zone has n transitions, of which w take effect in the window of the local time (from the local time less the zone's greatest offset to
-    /// the local time less its least one), a search reads at most 2 b + w + 4, where b is the number of binary digits of n. The count saturates at
-    /// `u64::MAX`.
+    /// If a zone has n transitions, of which w take effect in the window of the local time (from
+    /// the local time less the zone's greatest offset to the local time less its least one), a
+    /// search reads at most 2 b + w + 4, where b is the number of binary digits of n. The count
+    /// saturates at `u64::MAX`.
     ///
     /// # Errors
     ///
@@ -254,20 +263,26 @@ impl DateTime {
         nanoseconds: u32,
         time_zone_ref: TimeZoneRef<'_>,
     ) -> Result<(FoundDateTimeListRefMut<'a>, u64), TzError>
-        ensures* untouched { sem 𝓛 (RestsIfInvalid (λ counted. reference_of counted.0) buf.entry (fields_of year month month_day hour minute second nanoseconds) result) }
-        ensures same_reference { IfOk result (λ found. reference_of found.0 ≡ buf.entry.ghost_name) }
+        ensures* untouched { sem 𝓛 (RestsIfInvalid (λ counted. reference_of counted.0) buf.entry
+            (fields_of year month month_day hour minute second nanoseconds) result) }
+        ensures same_reference { IfOk result (λ found. reference_of found.0
+            ≡ buf.entry.ghost_name) }
         ensures ok { IfOk result (λ counted. (found : List FoundDateTimeKind)
-            × IsFound (IsClock (zone_of time_zone_ref.entry)) (fields_of year month month_day hour minute second nanoseconds) found
+            × IsFound (IsClock (zone_of time_zone_ref.entry))
+            (fields_of year month month_day hour minute second nanoseconds) found
             × (count_of counted.0 ≡ length found) × (slots_of counted.0 ≡ filled buf.old found)) }
-        ensures valid { OnOk result (IsValid (fields_of year month month_day hour minute second nanoseconds)) }
-        ensures made { OnOk result (EachCanBeMade (IsClock (zone_of time_zone_ref.entry)) (fields_of year month month_day hour minute second nanoseconds)) }
-        ensures promised { IsPromised (zone_of time_zone_ref.entry) year → IfErr result (λ e. e ≢ TzError.OutOfRange) }
-        ensures err { IfErr result (IsFindFault ⊥ (IsClock (zone_of time_zone_ref.entry)) (fields_of year month month_day hour minute second nanoseconds)) }
-        ensures at_most { IfOk result (λ counted. (b w : ℕ) → length (zone_of time_zone_ref.entry).transitions < 2 ^ b
-            → AtMostTakeEffectAround (zone_of time_zone_ref.entry) (reading (fields_of year month month_day hour minute second nanoseconds)) w
+        ensures outcome { IsOutcome (λ e. e) ⊥ (zone_of time_zone_ref.entry)
+            (fields_of year month month_day hour minute second nanoseconds) result }
+        ensures at_most { IfOk result (λ counted. (b w : ℕ)
+            → length (zone_of time_zone_ref.entry).transitions < 2 ^ b
+            → AtMostTakeEffectAround (zone_of time_zone_ref.entry)
+            (reading (fields_of year month month_day hour minute second nanoseconds)) w
             → counted.1 ≤ 2 * b + w + 4) }
-        ensures at_least_one { IfOk result (λ counted. 0 < length (zone_of time_zone_ref.entry).transitions → 1 ≤ counted.1) }
-        ensures none { IfOk result (λ counted. length (zone_of time_zone_ref.entry).transitions ≡ 0 → counted.1 ≡ 0) }
+        ensures at_least_one { IfOk result
+            (λ counted. 0 < length (zone_of time_zone_ref.entry).transitions
+            → 1 ≤ counted.1) }
+        ensures none { IfOk result (λ counted. length (zone_of time_zone_ref.entry).transitions ≡ 0
+            → counted.1 ≡ 0) }
     {
         // A call and a match: the proof of `untouched` follows these statements.
         match DateTime::listed_counted(
@@ -300,15 +315,20 @@ impl DateTime {
     ) -> Result<FoundDateTimeListRefMut<'a>, Refused<'a>>
         ensures same_reference { IfOk result (λ list. reference_of list ≡ buf.entry.ghost_name) }
         ensures ok { IfOk result (λ list. (found : List FoundDateTimeKind)
-            × IsFound (IsClock (zone_of time_zone_ref.entry)) (fields_of year month month_day hour minute second nanoseconds) found
+            × IsFound (IsClock (zone_of time_zone_ref.entry))
+            (fields_of year month month_day hour minute second nanoseconds) found
             × (count_of list ≡ length found) × (slots_of list ≡ filled buf.old found)) }
-        ensures refused_reference { IfErr result (λ refused. refused.buf.ghost_name ≡ buf.entry.ghost_name) }
-        ensures untouched { IfErr result (λ refused. IsValid (fields_of year month month_day hour minute second nanoseconds) ⊎ (refused.buf.now ≡ buf.old)) }
-        ensures outcome { IsOutcome (λ refused. refused.fault) ⊥ (zone_of time_zone_ref.entry) (fields_of year month month_day hour minute second nanoseconds) result }
+        ensures refused_reference { IfErr result (λ refused. refused.buf.ghost_name
+            ≡ buf.entry.ghost_name) }
+        ensures untouched { IfErr result (λ refused. IsValid
+            (fields_of year month month_day hour minute second nanoseconds)
+            ⊎ (refused.buf.now ≡ buf.old)) }
+        ensures outcome { IsOutcome (λ refused. refused.fault) ⊥ (zone_of time_zone_ref.entry)
+            (fields_of year month month_day hour minute second nanoseconds) result }
     {
         let fields = Fields::new(year, month, month_day, hour, minute, second, nanoseconds);
         let mut view = Uncounted::new(time_zone_ref.transitions());
-        DateTime::listed_in(buf, &fields, &mut view, time_zone_ref)
+        DateTime::listed_in(buf, &fields, &mut view, &plain(&time_zone_ref))
     }
 
     /// What [`DateTime::find_n_counted`] returns, or the buffer and the error.
@@ -323,44 +343,61 @@ impl DateTime {
         nanoseconds: u32,
         time_zone_ref: TimeZoneRef<'_>,
     ) -> Result<(FoundDateTimeListRefMut<'a>, u64), Refused<'a>>
-        ensures same_reference { IfOk result (λ counted. reference_of counted.0 ≡ buf.entry.ghost_name) }
+        ensures same_reference { IfOk result (λ counted. reference_of counted.0
+            ≡ buf.entry.ghost_name) }
         ensures ok { IfOk result (λ counted. (found : List FoundDateTimeKind)
-            × IsFound (IsClock (zone_of time_zone_ref.entry)) (fields_of year month month_day hour minute second nanoseconds) found
+            × IsFound (IsClock (zone_of time_zone_ref.entry))
+            (fields_of year month month_day hour minute second nanoseconds) found
             × (count_of counted.0 ≡ length found) × (slots_of counted.0 ≡ filled buf.old found)) }
-        ensures refused_reference { IfErr result (λ refused. refused.buf.ghost_name ≡ buf.entry.ghost_name) }
-        ensures untouched { IfErr result (λ refused. IsValid (fields_of year month month_day hour minute second nanoseconds) ⊎ (refused.buf.now ≡ buf.old)) }
-        ensures outcome { IsOutcome (λ refused. refused.fault) ⊥ (zone_of time_zone_ref.entry) (fields_of year month month_day hour minute second nanoseconds) result }
-        ensures at_most { IfOk result (λ counted. (b w : ℕ) → length (zone_of time_zone_ref.entry).transitions < 2 ^ b
-            → AtMostTakeEffectAround (zone_of time_zone_ref.entry) (reading (fields_of year month month_day hour minute second nanoseconds)) w
+        ensures refused_reference { IfErr result (λ refused. refused.buf.ghost_name
+            ≡ buf.entry.ghost_name) }
+        ensures untouched { IfErr result (λ refused. IsValid
+            (fields_of year month month_day hour minute second nanoseconds)
+            ⊎ (refused.buf.now ≡ buf.old)) }
+        ensures outcome { IsOutcome (λ refused. refused.fault) ⊥ (zone_of time_zone_ref.entry)
+            (fields_of year month month_day hour minute second nanoseconds) result }
+        ensures at_most { IfOk result (λ counted. (b w : ℕ)
+            → length (zone_of time_zone_ref.entry).transitions < 2 ^ b
+            → AtMostTakeEffectAround (zone_of time_zone_ref.entry)
+            (reading (fields_of year month month_day hour minute second nanoseconds)) w
             → counted.1 ≤ 2 * b + w + 4) }
-        ensures at_least_one { IfOk result (λ counted. 0 < length (zone_of time_zone_ref.entry).transitions → 1 ≤ counted.1) }
-        ensures none { IfOk result (λ counted. length (zone_of time_zone_ref.entry).transitions ≡ 0 → counted.1 ≡ 0) }
+        ensures at_least_one { IfOk result
+            (λ counted. 0 < length (zone_of time_zone_ref.entry).transitions
+            → 1 ≤ counted.1) }
+        ensures none { IfOk result (λ counted. length (zone_of time_zone_ref.entry).transitions ≡ 0
+            → counted.1 ≡ 0) }
     {
         let fields = Fields::new(year, month, month_day, hour, minute, second, nanoseconds);
         let mut view = Counted::new(time_zone_ref.transitions());
-        let list = DateTime::listed_in(buf, &fields, &mut view, time_zone_ref)?;
+        let list = DateTime::listed_in(buf, &fields, &mut view, &plain(&time_zone_ref))?;
         Ok((list, view.looks()))
     }
 
-    /// What [`DateTime::find_n`] returns for the fields, through a view of the zone's transitions, or the buffer and the error.
+    /// What [`DateTime::find_n`] returns for the fields, through a view of the zone's transitions,
+    /// or the buffer and the error.
     #[inline(always)]
-    pub(super) fn listed_in<'a, V: Transitions>(
+    fn listed_in<'a, V: Transitions>(
         buf: &'a mut [Option<FoundDateTimeKind>],
         fields: &Fields,
         view: &mut V,
-        time_zone_ref: TimeZoneRef<'_>,
+        zone: &ZoneData<'_>,
     ) -> Result<FoundDateTimeListRefMut<'a>, Refused<'a>>
-        requires { V.list view.old ≡ (zone_of time_zone_ref).transitions }
+        requires { V.list view.old ≡ (zone_of_data zone.now).transitions }
         ensures same_reference { IfOk result (λ list. reference_of list ≡ buf.entry.ghost_name) }
-        ensures ok { IfOk result (λ list. (found : List FoundDateTimeKind) × IsFound (IsClock (zone_of time_zone_ref.entry)) fields.now found
+        ensures ok { IfOk result (λ list. (found : List FoundDateTimeKind)
+            × IsFound (IsClock (zone_of_data zone.now)) fields.now found
             × (count_of list ≡ length found) × (slots_of list ≡ filled buf.old found)) }
-        ensures refused_reference { IfErr result (λ refused. refused.buf.ghost_name ≡ buf.entry.ghost_name) }
-        ensures untouched { IfErr result (λ refused. IsValid fields.now ⊎ (refused.buf.now ≡ buf.old)) }
-        ensures outcome { IsOutcome (λ refused. refused.fault) ⊥ (zone_of time_zone_ref.entry) fields.now result }
-        ensures looks { AreLooksOf (zone_of time_zone_ref.entry) (reading fields.now) (V.looks view.old) (V.next (V.looks view.old)) (V.looks view.new) result }
+        ensures refused_reference { IfErr result (λ refused.
+            refused.buf.ghost_name ≡ buf.entry.ghost_name) }
+        ensures untouched { IfErr result (λ refused.
+            IsValid fields.now ⊎ (refused.buf.now ≡ buf.old)) }
+        ensures outcome { IsOutcome (λ refused. refused.fault) ⊥ (zone_of_data zone.now)
+            fields.now result }
+        ensures looks { AreLooksOf (zone_of_data zone.now) (reading fields.now) (V.looks view.old)
+            (V.next (V.looks view.old)) (V.looks view.new) result }
     {
         let mut writer = SlotWriter::new(buf, 0);
-        match find_in(&mut writer, fields, view, time_zone_ref) {
+        match find_in(&mut writer, fields, view, zone) {
             Ok(()) => {
                 let count = writer.count;
                 Ok(FoundDateTimeListRefMut::counted(buf, count))

@@ -1,4 +1,5 @@
-//! What a search of date times finds: an entry, and lists of entries in memory of their own or in a buffer of the caller.
+//! What a search of date times finds: an entry, and lists of entries in memory of their own or in a
+//! buffer of the caller.
 
 use super::DateTime;
 use super::entry_takers::DateTimeList;
@@ -123,7 +124,8 @@ impl<A: Allocator + Copy> DateTimeList for FoundDateTimeList<A> {
 
     ghost more = { Prim.search (rules, common_steps) };
 
-    /// The first one gets room for two, since a reading is found once, or twice if clocks are set back over it.
+    /// The first one gets room for two, since a reading is found once, or twice if clocks are set
+    /// back over it.
     #[inline(always)]
     fn push(&mut self, found: FoundDateTimeKind) -> Result<(), AllocError> {
         if self.found.is_empty() {
@@ -145,13 +147,17 @@ impl<A: Allocator + Copy> fmt::Debug for FoundDateTimeList<A> {
 
 /// The date times that a search found, by rising Unix time, as far as a buffer goes.
 ///
-/// All are counted, and the first of them are in the buffer's first slots. Lists are equal if all slots of the buffers are, and the
-/// counts are.
+/// All are counted, and the first of them are in the buffer's first slots. Lists are equal if all
+/// slots of the buffers are, and the counts are.
 ///
-/// The Unix time of a local time that is in no gap and no fold. One slot is enough, as all entries are counted:
+/// The Unix time of a local time that is in no gap and no fold. One slot is enough, as all entries
+/// are counted:
 ///
 /// ```rust
-/// pub fn plain_instant(zone: TimeZoneRef<'_>, local: UtcDateTime) -> Result<Option<i64>, TzError> {
+/// pub fn plain_instant(
+///     zone: TimeZoneRef<'_>,
+///     local: UtcDateTime,
+/// ) -> Result<Option<i64>, TzError> {
 ///     let mut slots = [None; 1];
 ///     let found = DateTime::find_n_local(&mut slots, local, zone)?;
 ///     Ok(found.unique().map(|date_time| date_time.unix_time()))
@@ -214,23 +220,27 @@ impl<'a> FoundDateTimeListRefMut<'a> {
         self.count <= self.buf.len()
     }
 
-    /// The earliest date time that was written; of a jump the side before it. `None` if nothing was written.
+    /// The earliest date time that was written; of a jump the side before it. `None` if nothing was
+    /// written.
     pub fn earliest(&self) -> Option<DateTime>
         ensures { result ≡ earliest_slot (written_of (slots_of self.now) (count_of self.now)) }
     {
         Some(*self.data().first()?.as_ref()?.sides().0)
     }
 
-    /// The latest date time that was written; of a jump the side after it. `None` if nothing was written.
+    /// The latest date time that was written; of a jump the side after it. `None` if nothing was
+    /// written.
     pub fn latest(&self) -> Option<DateTime>
         ensures { result ≡ latest_slot (written_of (slots_of self.now) (count_of self.now)) }
     {
         Some(*self.data().last()?.as_ref()?.sides().1)
     }
 
-    /// The date time, if exactly one was found and no jump, and there was a slot for it, and otherwise `None`.
+    /// The date time, if exactly one was found and no jump, and there was a slot for it, and
+    /// otherwise `None`.
     pub fn unique(&self) -> Option<DateTime>
-        ensures exhaustive { count_of self.now ≤ length (slots_of self.now) → result ≡ unique_slot (written_of (slots_of self.now) (count_of self.now)) }
+        ensures exhaustive { count_of self.now ≤ length (slots_of self.now)
+            → result ≡ unique_slot (written_of (slots_of self.now) (count_of self.now)) }
         ensures short { length (slots_of self.now) < count_of self.now → result ≡ None }
     {
         match *self.data() {
@@ -251,7 +261,8 @@ impl PartialEq for FoundDateTimeListRefMut<'_> {
     ghost use Rattle.tz.specs.contracts.datetime.found.FoundDateTimeKindPartialEq.TheImpl as kind_eq;
     ghost use Rattle.tz.specs.contracts.datetime.found.FoundDateTimeKindPartialEq.TheImpl.Laws as kind_laws;
 
-    ghost eq = { eq_of_both (on (λ l. l.buf.now) (pointwise (option_eq (kind_eq.ghosts).eq))) (on (λ l. l.count) nat_eq) };
+    ghost eq = { eq_of_both (on (λ l. l.buf.now) (pointwise (option_eq (kind_eq.ghosts).eq)))
+        (on (λ l. l.count) nat_eq) };
 
     ghost laws = { Prim.search (comparing, rules, options_per, kind_laws.laws-law) };
 
@@ -260,7 +271,8 @@ impl PartialEq for FoundDateTimeListRefMut<'_> {
     }
 }
 
-/// Prints the name of the type, all slots, how many of them were written, and how many date times were found.
+/// Prints the name of the type, all slots, how many of them were written, and how many date times
+/// were found.
 impl fmt::Debug for FoundDateTimeListRefMut<'_> {
     fn fmt<W: fmt::Write>(&self, f: &mut fmt::Formatter<W>) -> fmt::Result {
         f.debug_struct("FoundDateTimeListRefMut")

@@ -58,17 +58,20 @@ impl<'a, S: Slot> SlotWriter<'a, S> {
     fn write(&mut self, found: &FoundDateTimeKind)
         ensures same_reference { self.new.slots.ghost_name ≡ self.old.slots.ghost_name }
         ensures skip { self.new.skip ≡ self.old.skip }
-        ensures slots { self.old.skip ≤ self.old.count → self.old.count - self.old.skip < length self.old.slots.now
-            → self.new.slots.now ≡ slice_set self.old.slots.now (self.old.count - self.old.skip) (S.holding found.now) }
+        ensures slots { self.old.skip ≤ self.old.count
+            → self.old.count - self.old.skip < length self.old.slots.now
+            → self.new.slots.now ≡ slice_set self.old.slots.now (self.old.count - self.old.skip)
+            (S.holding found.now) }
         ensures skipped { self.old.count < self.old.skip → self.new.slots.now ≡ self.old.slots.now }
-        ensures full { self.old.skip ≤ self.old.count → length self.old.slots.now ≤ self.old.count - self.old.skip
+        ensures full { self.old.skip ≤ self.old.count
+            → length self.old.slots.now ≤ self.old.count - self.old.skip
             → self.new.slots.now ≡ self.old.slots.now }
         ensures count { self.new.count ≡ min (self.old.count + 1) usize.MAX }
     {
         if self.skip <= self.count {
-            let place = self.count - self.skip;
-            if place < self.slots.len() {
-                self.slots[place].set(found);
+            let index = self.count - self.skip;
+            if index < self.slots.len() {
+                self.slots[index].set(found);
             }
         }
         // A list has at most 2^33 entries, so the count never comes to its end.

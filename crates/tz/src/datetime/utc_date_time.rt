@@ -19,8 +19,8 @@ use tz_zone::timezone::TimeZoneRef;
 
 /// A date time of UTC, in a year of 32 bits. (ISO 8601)
 ///
-/// Date times are compared field by field, so second 60 comes before the next minute's second 0, although both have the same
-/// Unix time.
+/// Date times are compared field by field, so second 60 comes before the next minute's second 0,
+/// although both have the same Unix time.
 #[repr(C)]
 #[derive(Clone, Copy)]
 #[derive_where(PartialEq, Eq, PartialOrd, Ord)]
@@ -79,7 +79,8 @@ const _: () = prove!(
         && UtcDateTime::MAX.unix_time == 67_767_976_233_532_799
 );
 
-/// Whether the fields are second 60 of the last minute, which reads as a second past the years of 32 bits.
+/// Whether the fields are second 60 of the last minute, which reads as a second past the years of
+/// 32 bits.
 pub(crate) fn is_past_the_end(fields: &Fields) -> bool
     ensures { MatchBool result (IsPastTheEnd fields.now) (¬ IsPastTheEnd fields.now) }
 {
@@ -141,8 +142,9 @@ impl UtcDateTime {
         unix_time: 67_767_976_233_532_799,
     };
 
-    /// The date time with these fields: the month from 1 to 12, the day of the month from 1, the hour from 0 to 23, the minute from 0 to 59, the
-    /// second from 0 to 60 and the nanoseconds below a second.
+    /// The date time with these fields: the month from 1 to 12, the day of the month from 1, the
+    /// hour from 0 to 23, the minute from 0 to 59, the second from 0 to 60 and the nanoseconds
+    /// below a second.
     ///
     /// The Moon landing, in UTC:
     ///
@@ -154,9 +156,10 @@ impl UtcDateTime {
     ///
     /// # Errors
     ///
-    /// - [`TzError::OutOfRange`] for second 60 of the last minute of the year `i32::MAX`, whatever the nanoseconds;
-    /// - [`TzError::DateTime`] with the first field that is out of range, in the order of the arguments, or else with `InvalidMonthDay` if the month
-    ///   does not have the day.
+    /// - [`TzError::OutOfRange`] for second 60 of the last minute of the year `i32::MAX`, whatever
+    ///   the nanoseconds;
+    /// - [`TzError::DateTime`] with the first field that is out of range, in the order of the
+    ///   arguments, or else with `InvalidMonthDay` if the month does not have the day.
     pub fn new(
         year: i32,
         month: u8,
@@ -166,9 +169,12 @@ impl UtcDateTime {
         second: u8,
         nanoseconds: u32,
     ) -> Result<Self, TzError>
-        ensures value { IfOk result (λ d. d ≡ fields_of year month month_day hour minute second nanoseconds) }
-        ensures ok { OnOk result (IsUtc (fields_of year month month_day hour minute second nanoseconds)) }
-        ensures err { IfErr result (IsUtcFault (fields_of year month month_day hour minute second nanoseconds)) }
+        ensures value { IfOk result
+            (λ d. d ≡ fields_of year month month_day hour minute second nanoseconds) }
+        ensures ok { OnOk result
+            (IsUtc (fields_of year month month_day hour minute second nanoseconds)) }
+        ensures err { IfErr result (IsUtcFault (fields_of year month month_day hour minute second
+            nanoseconds)) }
     {
         let fields = Fields::new(year, month, month_day, hour, minute, second, nanoseconds);
         if is_past_the_end(&fields) {
@@ -208,7 +214,8 @@ impl UtcDateTime {
     ///
     /// # Errors
     ///
-    /// - [`TzError::DateTime`] with [`DateTimeError::InvalidNanoseconds`] if there are 10^9 nanoseconds or more;
+    /// - [`TzError::DateTime`] with [`DateTimeError::InvalidNanoseconds`] if there are 10^9
+    ///   nanoseconds or more;
     /// - [`TzError::OutOfRange`] if the year does not fit an `i32`.
     pub fn from_timespec(unix_time: i64, nanoseconds: u32) -> Result<Self, TzError>
         ensures ok { IfOk result (IsCivil unix_time nanoseconds) }
@@ -224,14 +231,16 @@ impl UtcDateTime {
         Ok(UtcDateTime::at(unix_time, nanoseconds))
     }
 
-    /// The date time a number of nanoseconds after [`UtcDateTime::UNIX_EPOCH`], or before it if the number is negative.
+    /// The date time a number of nanoseconds after [`UtcDateTime::UNIX_EPOCH`], or before it if the
+    /// number is negative.
     ///
     /// # Errors
     ///
     /// [`TzError::OutOfRange`] if its year does not fit an `i32`.
     pub fn from_total_nanoseconds(total_nanoseconds: i128) -> Result<Self, TzError>
         ensures ok { IfOk result (IsUtcAt total_nanoseconds) }
-        ensures err { IfErr result (λ e. (e ≡ TzError.OutOfRange) × ¬ IsUtcTotal total_nanoseconds) }
+        ensures err { IfErr result (λ e. (e ≡ TzError.OutOfRange)
+            × ¬ IsUtcTotal total_nanoseconds) }
     {
         let Some((unix_time, nanoseconds)) = utc_timespec(total_nanoseconds) else {
             return Err(TzError::OutOfRange);
@@ -239,7 +248,8 @@ impl UtcDateTime {
         Ok(UtcDateTime::at(unix_time, nanoseconds))
     }
 
-    /// The date time of the current time, which the caller passes as Unix seconds and nanoseconds below a second.
+    /// The date time of the current time, which the caller passes as Unix seconds and nanoseconds
+    /// below a second.
     ///
     /// # Errors
     ///
@@ -320,9 +330,13 @@ impl UtcDateTime {
     /// The next Monday at 9:00 in a zone:
     ///
     /// ```rust
-    /// pub fn next_monday_at_nine(zone: TimeZoneRef<'_>, now: i64) -> Result<Option<DateTime>, TzError> {
+    /// pub fn next_monday_at_nine(
+    ///     zone: TimeZoneRef<'_>,
+    ///     now: i64,
+    /// ) -> Result<Option<DateTime>, TzError> {
     ///     let today = DateTime::from_timespec(now, 0, zone)?;
-    ///     let nine = UtcDateTime::new(today.year(), today.month(), today.month_day(), 9, 0, 0, 0)?;
+    ///     let nine =
+    ///         UtcDateTime::new(today.year(), today.month(), today.month_day(), 9, 0, 0, 0)?;
     ///     for days in 0..8u64 {
     ///         let local = nine
     ///             .checked_add(Duration::from_secs(86_400 * days))
@@ -375,16 +389,18 @@ impl UtcDateTime {
     ///
     /// Those of [`DateTime::from_timespec`] at an instant with valid nanoseconds.
     pub fn project(&self, time_zone_ref: TimeZoneRef<'_>) -> Result<DateTime, TzError>
-        ensures ok { IfOk result (ShowsByClock (zone_of time_zone_ref.entry) (reading self.now) self.now.nanoseconds) }
-        ensures err { IfErr result (IsClockFault (zone_of time_zone_ref.entry) (reading self.now) self.now.nanoseconds) }
+        ensures ok { IfOk result (ShowsByClock (zone_of time_zone_ref.entry)
+            (reading self.now) self.now.nanoseconds) }
+        ensures err { IfErr result (IsClockFault (zone_of time_zone_ref.entry)
+            (reading self.now) self.now.nanoseconds) }
     {
         DateTime::from_timespec(self.unix_time(), self.fields.nanoseconds, time_zone_ref)
     }
 
     /// The date time later by a duration, or `None` if that is past [`UtcDateTime::MAX`].
     ///
-    /// A meeting at one local time each week. Weeks are added to the local time, not to the first instant: an hour may be lost or
-    /// gained between.
+    /// A meeting at one local time each week. Weeks are added to the local time, not to the first
+    /// instant: an hour may be lost or gained between.
     ///
     /// ```rust
     /// pub fn weekly_meetings(
@@ -397,7 +413,9 @@ impl UtcDateTime {
     ///     for week in 0..weeks {
     ///         let after_first = Duration::from_secs(604_800 * u64::from(week));
     ///         let local = first.checked_add(after_first).ok_or(TzError::OutOfRange)?;
-    ///         if let Some(meeting) = DateTime::from_local(local, Disambiguation::Compatible, zone)? {
+    ///         if let Some(meeting) =
+    ///             DateTime::from_local(local, Disambiguation::Compatible, zone)?
+    ///         {
     ///             meetings.push(meeting)?;
     ///         }
     ///     }
@@ -405,7 +423,8 @@ impl UtcDateTime {
     /// }
     /// ```
     pub fn checked_add(&self, duration: Duration) -> Option<Self>
-        ensures in_range { IsSome result ↔ IsUtcTotal (utc_total self.now +ℤ pos (as_nanos duration)) }
+        ensures in_range { IsSome result
+            ↔ IsUtcTotal (utc_total self.now +ℤ pos (as_nanos duration)) }
         ensures some { IfSome result (IsUtcAt (utc_total self.now +ℤ pos (as_nanos duration))) }
     {
         let moved = time_after(self.unix_time(), self.fields.nanoseconds, duration);
@@ -415,7 +434,8 @@ impl UtcDateTime {
 
     /// The date time earlier by a duration, or `None` if that is before [`UtcDateTime::MIN`].
     pub fn checked_sub(&self, duration: Duration) -> Option<Self>
-        ensures in_range { IsSome result ↔ IsUtcTotal (utc_total self.now -ℤ pos (as_nanos duration)) }
+        ensures in_range { IsSome result
+            ↔ IsUtcTotal (utc_total self.now -ℤ pos (as_nanos duration)) }
         ensures some { IfSome result (IsUtcAt (utc_total self.now -ℤ pos (as_nanos duration))) }
     {
         let moved = time_before(self.unix_time(), self.fields.nanoseconds, duration);
@@ -436,8 +456,9 @@ impl UtcDateTime {
     }
 }
 
-/// The date time later by a duration. That it is not past [`UtcDateTime::MAX`] is a requirement that is checked at compile time; there is no panic.
-/// [`UtcDateTime::checked_add`] has no such requirement.
+/// The date time later by a duration. Rattle requires a proof that it is not past
+/// [`UtcDateTime::MAX`]; the Rust crate panics if it is. [`UtcDateTime::checked_add`] returns
+/// `None` then.
 impl Add<Duration> for UtcDateTime {
     ghost use Rattle.std.specs.Prelude.{pos, ◌+ℤ◌};
     ghost use Rattle.std.specs.Duration.{as_nanos};
@@ -454,8 +475,9 @@ impl Add<Duration> for UtcDateTime {
     }
 }
 
-/// The date time earlier by a duration. That it is not before [`UtcDateTime::MIN`] is a requirement that is checked at compile time; there is no
-/// panic. [`UtcDateTime::checked_sub`] has no such requirement.
+/// The date time earlier by a duration. Rattle requires a proof that it is not before
+/// [`UtcDateTime::MIN`]; the Rust crate panics if it is. [`UtcDateTime::checked_sub`] returns
+/// `None` then.
 impl Sub<Duration> for UtcDateTime {
     ghost use Rattle.std.specs.Prelude.{pos, ◌-ℤ◌};
     ghost use Rattle.std.specs.Duration.{as_nanos};
@@ -487,7 +509,8 @@ impl AddAssign<Duration> for UtcDateTime {
     }
 }
 
-/// Subtracts a duration, with the requirement of `-`: the difference is not before [`UtcDateTime::MIN`].
+/// Subtracts a duration, with the requirement of `-`: the difference is not before
+/// [`UtcDateTime::MIN`].
 impl SubAssign<Duration> for UtcDateTime {
     ghost use Rattle.std.specs.Prelude.{pos, ◌-ℤ◌};
     ghost use Rattle.std.specs.Duration.{as_nanos};
@@ -514,7 +537,8 @@ impl TryFrom<DateTime> for UtcDateTime {
 
     type Error = TzError;
 
-    ghost try_from_gives = { λ d r. IfOk r (IsCivil d.unix_time d.fields.nanoseconds) × IfErr r (λ e. (e ≡ OutOfRange) × ¬ IsReading d.unix_time) };
+    ghost try_from_gives = { λ d r. IfOk r (IsCivil d.unix_time d.fields.nanoseconds)
+        × IfErr r (λ e. (e ≡ OutOfRange) × ¬ IsReading d.unix_time) };
 
     fn try_from(date_time: DateTime) -> Result<Self, TzError> {
         if !is_reading(date_time.unix_time()) {

@@ -1,7 +1,7 @@
 //! Date times and searches in zones of plain data.
 
-ghost use Rattle.std.specs.Prelude.{◌≡◌, ◌≤◌, ◌^◌, List, length, IfOk, IfErr, OnOk};
-ghost use Rattle.tz_base.specs.Fields.{IsValid};
+ghost use Rattle.std.specs.Prelude.{◌≡◌, List, length, IfOk, IfErr, OnOk};
+ghost use Rattle.tz_base.specs.Fields.{IsReading, IsValid, reading};
 ghost use Rattle.tz_zone.specs.Clock.{IsClock};
 ghost use Rattle.tz_zone.specs.ZoneOfData.{zone_of_data};
 ghost use Rattle.tz.specs.DateTimes.{ShowsByClock, IsClockFault};
@@ -10,12 +10,11 @@ ghost use Rattle.tz.specs.Found.{EachCanBeMade, IsFound};
 ghost use Rattle.tz.specs.Plain.{entries_from, placed};
 ghost use Rattle.tz.specs.declared.datetime.found.FoundDateTimeKind.{FoundDateTimeKind};
 
-use super::DateTime;
-use super::date_time_data::FoundData;
-use super::disambiguation::Summary;
-use super::entry_takers::DateTimeList;
+use super::date_time::FoundData;
+use super::ends::meant_in;
 use super::search::search;
 use super::slot_writer::SlotWriter;
+use super::{DateTime, Disambiguation};
 use tz_base::constants::NANOSECONDS_PER_SECOND;
 use tz_base::error::TzError;
 use tz_base::error::datetime::DateTimeError;
@@ -30,6 +29,7 @@ pub fn from_timespec(
     zone: &ZoneData<'_>,
 ) -> Result<DateTime, TzError>
     ensures ok { IfOk result (ShowsByClock (zone_of_data zone.now) unix_time nanoseconds) }
+    ensures reads { IfOk result (λ d. IsReading (reading d.fields)) }
     ensures err { IfErr result (IsClockFault (zone_of_data zone.now) unix_time nanoseconds) }
 {
     if nanoseconds >= NANOSECONDS_PER_SECOND {
@@ -37,25 +37,6 @@ pub fn from_timespec(
     }
     let local_time_type = zone.find_local_time_type(unix_time)?;
     DateTime::shown_by(unix_time, nanoseconds, *local_time_type)
-}
-
-/// Adds the entries for valid fields to the list, in order.
-#[inline(always)]
-pub(super) fn search_data<L: DateTimeList>(
-    list: &mut L,
-    fields: &Fields,
-    zone: &ZoneData<'_>,
-) -> Result<(), TzError>
-    requires { IsValid fields.now }
-    ensures ok { OnOk result ((found : List FoundDateTimeKind) × L.gains list.old list.new found
-        × IsFound (IsClock (zone_of_data zone.now)) fields.now found × (length found ≤ 2 ^ 33)) }
-    ensures made { OnOk result (EachCanBeMade (IsClock (zone_of_data zone.now)) fields.now) }
-    ensures err { IfErr result (IsSearchFault L.takes_memory (IsClock (zone_of_data zone.now)) fields.now) }
-{
-    let mut view = Uncounted::new(zone.transitions());
-    let (least, greatest) = zone.offsets();
-    let parts = zone.other_parts();
-    search(list, fields, &mut view, parts, least, greatest)
 }
 
 /// Searches without writing anything. Not inlined, so that the search that writes stays small.
@@ -66,10 +47,12 @@ fn check_by_search(fields: &Fields, zone: &ZoneData<'_>) -> Result<(), TzError>
     ensures made { OnOk result (EachCanBeMade (IsClock (zone_of_data zone.now)) fields.now) }
     ensures err { IfErr result (IsSearchFault ⊥ (IsClock (zone_of_data zone.now)) fields.now) }
 {
-    search_data(&mut Summary::Nothing, fields, zone)
+    meant_in(fields.reading(), Disambiguation::Compatible, zone)?;
+    Ok(())
 }
 
-/// Searches for fields near the ends of the years, so that a search that is refused is refused before anything is written.
+/// Searches for fields near the ends of the years, so that a search that is refused is refused
+/// before anything is written.
 #[inline(always)]
 fn check_entries(fields: &Fields, zone: &ZoneData<'_>) -> Result<(), TzError>
     requires { IsValid fields.now }
@@ -85,14 +68,16 @@ fn check_entries(fields: &Fields, zone: &ZoneData<'_>) -> Result<(), TzError>
     check_by_search(fields, zone)
 }
 
-/// Writes the entries for the fields, from one of them on, to the slots, as far as they go, and counts all.
+/// Writes the entries for the fields, from one of them on, to the slots, as far as they go, and
+/// counts all.
 pub fn find_into(
     slots: &mut [FoundData],
     skip: usize,
     fields: &Fields,
     zone: &ZoneData<'_>,
 ) -> Result<usize, TzError>
-    ensures ok { IfOk result (λ count. (found : List FoundDateTimeKind) × IsFound (IsClock (zone_of_data zone.now)) fields.now found
+    ensures ok { IfOk result (λ count. (found : List FoundDateTimeKind)
+        × IsFound (IsClock (zone_of_data zone.now)) fields.now found
         × (count ≡ length found) × (slots.new ≡ placed slots.old (entries_from skip found))) }
     ensures valid { OnOk result (IsValid fields.now) }
     ensures made { OnOk result (EachCanBeMade (IsClock (zone_of_data zone.now)) fields.now) }
@@ -102,6 +87,7 @@ pub fn find_into(
     fields.check()?;
     check_entries(fields, zone)?;
     let mut writer = SlotWriter::new(slots, skip);
-    search_data(&mut writer, fields, zone)?;
+    let mut view = Uncounted::new(zone.transitions());
+    search(&mut writer, fields, &mut view, zone)?;
     Ok(writer.count)
 }

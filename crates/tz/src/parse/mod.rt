@@ -1,11 +1,8 @@
 //! Printed date times read back. (RFC 3339, section 5.6)
 
-mod date_and_time;
+pub(crate) mod date_and_time;
 mod error;
-pub(crate) mod number;
-mod offset;
 mod parsed_date_time;
-mod usual_texts;
 
 pub use error::{DateTimePart, ParseDateTimeError};
 pub use parsed_date_time::ParsedDateTime;

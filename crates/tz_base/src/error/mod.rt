@@ -1,6 +1,5 @@
 //! The error types, and what `?` makes of an error.
 
-mod conversions;
 pub mod datetime;
 pub mod parse;
 pub mod timezone;

@@ -6,7 +6,8 @@ use thiserror::Error;
 #[derive(Clone, Copy, Debug, PartialEq, Eq, Error)]
 pub enum LocalTimeTypeError {
     /// The designation does not have 1 to 7 bytes.
-    // The text is that of tz-rs. POSIX wants 3 characters or more, but names of 1 and 2 are accepted, as tz-rs accepts them.
+    // The text is that of tz-rs. POSIX wants 3 characters or more, but names of 1 and 2 are
+    // accepted, as tz-rs accepts them.
     #[error("time zone designation must have between 3 and 7 characters")]
     InvalidTimeZoneDesignationLength,
     /// A byte of the designation is not an ASCII letter or digit, `+` or `-`.

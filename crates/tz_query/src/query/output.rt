@@ -1,22 +1,34 @@
-//! Where answers are written.
+//! Answers on their way out: a page of them, and the streams.
 
-ghost use Rattle.std.specs.Prelude.{◌≡◌, ◌+◌, ◌<◌, ◌≤◌, ◌∷◌, ◌++◌, [], length, codes, IfOk};
-ghost use Rattle.std.specs.Fmt.{decimal};
+ghost use Rattle.std.specs.Prelude.{◌≡◌, ◌+◌, ◌<◌, ◌≤◌, ◌∷◌, ◌++◌, [], length, codes, IfOk, ℕ, ℤ, List, MatchBool, ◌≢◌, IfErr, OnOk};
+ghost use Rattle.std.specs.Fmt.{decimal, signed_decimal};
 ghost use Rattle.tz_query.specs.Lines.{ended, line_feed};
 ghost use Rattle.tz_query.specs.Numbers.{space};
-ghost use Rattle.tz_query.specs.Pages.{HasRoom};
+ghost use Rattle.tz_query.specs.Pages.{HasRoom, HasRoomFor};
+ghost use Rattle.tz_base.specs.Fields.{IsValid};
+ghost use Rattle.tz.specs.DateTimes.{moment_of};
+ghost use Rattle.tz.specs.PrintedText.{moment_text, suffix_text};
+ghost use Rattle.tz_query.specs.Nanoseconds.{with_nanoseconds};
+ghost use Rattle.std.specs.Io.KnownBytes.{Appends};
+ghost use Rattle.tz_query.specs.Streams.{WritesAnswers, WritesFront, WritesFrontOfAnswers};
+ghost use Rattle.tz_zone.specs.ZoneRef.{zone_of};
 
-use super::nanoseconds::Nanoseconds;
-use super::page::Page;
-use super::type_suffixes::Suffix;
+use super::answers::Suffix;
+use super::lines::Nanoseconds;
+use crate::query::answers::answer;
 use std::alloc::{AllocError, Allocator};
-use tz::inner::{Fields, TextBuffer};
+use std::io::{Read, Write};
+use std::marker::Model;
+use thiserror::Error;
+use tz::TimeZoneRef;
+use tz::error::ReadFault;
+use tz::inner::{Fields, TextBuffer, middle_of, read_to_end, two_pairs};
 
 /// What writing returns: nothing, or that an allocation failed.
 pub type Written = Result<(), AllocError>;
 
-/// Where answers are written: onto a page. If the page has no room for one more line and its front (what stands before the date time, such as `N `),
-/// it is first appended to the answers before it.
+/// Where answers are written: onto a page. If the page has no room for one more line and its front
+/// (what stands before the date time, such as `N `), it is first appended to the answers before it.
 #[derive(Drop)]
 pub struct Output<A: Allocator> {
     pub answers: Vec<u8, A>,
@@ -45,7 +57,6 @@ impl<A: Allocator> Output<A> {
     }
 
     /// Makes room for one more line, with its front, on the page.
-    #[inline(always)]
     pub fn make_room(&mut self) -> Written
         ensures room { IfOk result (λ _. HasRoom self.new.page) }
         ensures text { IfOk result (λ _. written self.new ≡ written self.old) }
@@ -59,7 +70,8 @@ impl<A: Allocator> Output<A> {
     /// Writes a line of two pieces.
     fn push_line(&mut self, front: &[u8], text: &[u8]) -> Written
         requires { length front.now + length text.now < 128 }
-        ensures { IfOk result (λ _. written self.new ≡ written self.old ++ (front.now ++ (text.now ++ line_feed ∷ []))) }
+        ensures { IfOk result (λ _. written self.new ≡ written self.old
+            ++ (front.now ++ (text.now ++ line_feed ∷ []))) }
     {
         self.make_room()?;
         self.page.push(front);
@@ -72,7 +84,8 @@ impl<A: Allocator> Output<A> {
     #[inline(never)]
     pub fn push_error(&mut self, name: &str) -> Written
         requires { length name.now ≤ 24 }
-        ensures { IfOk result (λ _. written self.new ≡ written self.old ++ ended ((codes "E " ++ name.now) ∷ [])) }
+        ensures { IfOk result (λ _. written self.new ≡ written self.old
+            ++ ended ((codes "E " ++ name.now) ∷ [])) }
     {
         self.push_line(b"E ", name.as_bytes())
     }
@@ -80,7 +93,8 @@ impl<A: Allocator> Output<A> {
     /// Writes a line with a letter and a count.
     #[inline(never)]
     pub fn push_count(&mut self, letter: u8, count: usize) -> Written
-        ensures { IfOk result (λ _. written self.new ≡ written self.old ++ ended ((letter ∷ space ∷ decimal count) ∷ [])) }
+        ensures { IfOk result (λ _. written self.new ≡ written self.old
+            ++ ended ((letter ∷ space ∷ decimal count) ∷ [])) }
     {
         let mut text = TextBuffer::new();
         text.push_count(count as u64);
@@ -99,12 +113,221 @@ impl<A: Allocator> Output<A> {
         requires front { length front.now ≤ 6 }
         requires valid { IsValid fields.now }
         ensures text { IfOk result (λ _. (u : ℤ) → written self.new ≡ written self.old ++ (front.now
-            ++ (moment_text (moment_of (with_nanoseconds fields.now nanoseconds.now) suffix.now.local_time_type u) ++ line_feed ∷ []))) }
+            ++ (moment_text (moment_of (with_nanoseconds fields.now nanoseconds.now)
+            suffix.now.local_time_type u) ++ line_feed ∷ []))) }
         ensures ended { IfOk result (λ _. EndsLine self.new.page) }
     {
         self.make_room()?;
         self.page.push(front);
         self.page.push_date_time(fields, nanoseconds, suffix);
         Ok(())
+    }
+}
+
+/// The number of bytes that a page holds.
+const SIZE: usize = 2040;
+
+/// Room that is made at once: for a short line, or for a front (what stands before a date time,
+/// such as `N `) and the line of the date time. Neither is longer.
+const LONGEST: usize = 160;
+
+/// Printed text of at most 2040 bytes, which is kept without an allocation.
+///
+/// A line is put together from pieces that are copied whole: the year, the rest of the date and
+/// time, the nanoseconds and the suffix of the type.
+#[derive(Drop)]
+pub struct Page {
+    bytes: [u8; SIZE],
+    len: usize,
+}
+
+impl Model for Page {
+    ghost use Rattle.std.specs.Prelude.{◌≤◌, ℕ, List, take};
+
+    ghost Value = { List ℕ };
+
+    ghost view = { λ page. take page.len page.bytes };
+
+    ghost invariant = { λ page. page.len ≤ 2040 };
+}
+
+impl Page {
+    /// Makes an empty page.
+    pub fn new() -> Page
+        ensures { result ≡ [] }
+    {
+        Page {
+            bytes: [0; SIZE],
+            len: 0,
+        }
+    }
+
+    /// Whether one more line, with its front, fits onto the page.
+    pub fn has_room(&self) -> bool
+        ensures { MatchBool result (HasRoom self.now) (¬ HasRoom self.now) }
+    {
+        self.len <= SIZE - LONGEST
+    }
+
+    /// Clears the page.
+    pub fn clear(&mut self)
+        ensures { self.new ≡ [] }
+    {
+        self.len = 0;
+    }
+
+    /// Returns the text on the page.
+    pub fn as_bytes(&self) -> &[u8]
+        ensures { result.now ≡ self.now }
+    {
+        &self.bytes[..self.len]
+    }
+
+    /// Appends bytes to the page.
+    pub fn push(&mut self, text: &[u8])
+        requires { HasRoomFor (length text.now) self.old }
+        ensures text { self.new ≡ self.old ++ text.now }
+        ensures len { length self.new ≡ length self.old + length text.now }
+    {
+        let end = self.len + text.len();
+        self.bytes[self.len..end].copy_from_slice(text);
+        self.len = end;
+    }
+
+    /// Removes the last byte, if there is one.
+    pub fn pop(&mut self)
+        ensures text { (text : List ℕ) (byte : ℕ) → self.old ≡ text ++ byte ∷ [] → self.new ≡ text }
+        ensures len { length self.new ≤ length self.old }
+    {
+        self.len = self.len.saturating_sub(1);
+    }
+
+    /// Appends a year of any number of digits.
+    #[inline(never)]
+    fn push_any_year(&mut self, year: i32)
+        requires { HasRoomFor 11 self.old }
+        ensures text { self.new ≡ self.old ++ signed_decimal year }
+        ensures len { length self.new ≤ length self.old + 11 }
+    {
+        let mut text = TextBuffer::new();
+        text.push_year(year);
+        self.push(text.as_bytes());
+    }
+
+    /// Appends a year, in few steps if it has four digits.
+    #[inline(always)]
+    fn push_year(&mut self, year: i32)
+        requires { HasRoomFor 11 self.old }
+        ensures text { self.new ≡ self.old ++ signed_decimal year }
+        ensures len { length self.new ≤ length self.old + 11 }
+    {
+        if year < 1000 || year > 9999 {
+            self.push_any_year(year);
+        } else {
+            let (front, back) = two_pairs(year.unsigned_abs());
+            self.push(&front);
+            self.push(&back);
+        }
+    }
+
+    /// Appends what follows the year on the line of a date time: month to second, the nanoseconds,
+    /// and the suffix of its type.
+    #[inline(always)]
+    fn push_rest(&mut self, middle: &[u8; 16], nine: &[u8; 9], suffix: &Suffix)
+        requires { HasRoomFor 57 self.old }
+        ensures text { self.new ≡ self.old ++ (middle.now
+            ++ (nine.now ++ suffix_text suffix.now.local_time_type)) }
+        ensures len { length self.new ≤ length self.old + 57 }
+    {
+        let at = self.len;
+        self.bytes[at..at + 16].copy_from_slice(middle);
+        self.bytes[at + 16..at + 25].copy_from_slice(nine);
+        self.bytes[at + 25..at + 57].copy_from_slice(&suffix.bytes);
+        self.len = at + 25 + suffix.len;
+    }
+
+    /// Appends the line of a date time: the fields with these nanoseconds in the place of their
+    /// own, the offset and the name of its type, and LF.
+    #[inline(always)]
+    pub fn push_date_time(&mut self, fields: &Fields, nanoseconds: &Nanoseconds, suffix: &Suffix)
+        requires room { HasRoomFor 68 self.old }
+        requires valid { IsValid fields.now }
+        ensures text { (u : ℤ) → self.new ≡ self.old
+            ++ (moment_text (moment_of (with_nanoseconds fields.now nanoseconds.now)
+            suffix.now.local_time_type u) ++ 10 ∷ []) }
+        ensures len { length self.new ≤ length self.old + 68 }
+    {
+        self.push_year(fields.year);
+        self.push_rest(&middle_of(fields), &nanoseconds.digits, suffix);
+    }
+}
+
+/// Why a run ends without all answers.
+#[derive(Debug, Drop, Error)]
+pub enum RunFault {
+    /// A read of the queries failed.
+    #[error("cannot read queries")]
+    Read,
+    /// The queries or their answers ran out of memory.
+    #[error("no memory")]
+    Memory,
+    /// A write of the answers failed, or accepted no byte.
+    #[error("cannot write answers")]
+    Write,
+}
+
+/// Writes the bytes as far as can be, and returns whether all are written.
+pub(super) fn write_front<W: Write>(out: &mut W, bytes: &[u8]) -> bool
+    ensures { MatchBool result (Appends (W.contents out.old) (W.contents out.new) bytes.now)
+        (WritesFront bytes.now (W.contents out.old) (W.contents out.new)) }
+{
+    let mut rest = bytes;
+    while !rest.is_empty() {
+        let Ok(count @ 1..) = out.write(rest) else {
+            return false;
+        };
+        rest = &rest[count..];
+    }
+    true
+}
+
+/// The initial capacity for input. Memory that is not written to costs little.
+const FIRST_ROOM: usize = 262_144;
+
+/// Reads the input to its end, and then writes the answers of its lines over a zone, as [`answer`]
+/// makes them.
+///
+/// # Errors
+///
+/// The first of these:
+///
+/// - [`RunFault::Read`] if a read of the queries fails;
+/// - [`RunFault::Memory`] if an allocation for the queries or their answers fails;
+/// - [`RunFault::Write`] if a write of the answers fails, or accepts no byte.
+///
+/// After the first two the writer is as it was; after the last a prefix of the answers may have
+/// been written.
+pub fn run<A: Allocator + Copy, R: Read, W: Write>(
+    alloc: A,
+    zone: TimeZoneRef<'_>,
+    input: &mut R,
+    out: &mut W,
+) -> Result<(), RunFault>
+    ensures ok { OnOk result (WritesAnswers (zone_of zone.entry) (R.remaining input.old)
+        (R.remaining input.new) (W.contents out.old) (W.contents out.new)) }
+    ensures untouched { IfErr result (λ e. e ≢ RunFault.Write → out.new ≡ out.old) }
+    ensures begun { IfErr result (λ e. e ≡ RunFault.Write
+        → WritesFrontOfAnswers (zone_of zone.entry) (R.remaining input.old) (R.remaining input.new)
+        (W.contents out.old) (W.contents out.new)) }
+{
+    let queries = read_to_end(alloc, input, FIRST_ROOM).map_err(|fault| match fault {
+        ReadFault::Memory(_) => RunFault::Memory,
+        ReadFault::Failed(_) => RunFault::Read,
+    })?;
+    let answers = answer(alloc, zone, &queries).map_err(|_| RunFault::Memory)?;
+    if write_front(out, &answers) {
+        Ok(())
+    } else {
+        Err(RunFault::Write)
     }
 }

@@ -12,7 +12,7 @@ ghost use Rattle.tz_zone.specs.Table.{Zone};
 ghost use Rattle.tz_zone.specs.ZoneRef.{own_zone_of};
 
 use crate::query::lines::read_number;
-use crate::query::streams::{RunFault, run, write_front};
+use crate::query::output::{RunFault, run, write_front};
 use std::alloc::Allocator;
 use std::io::{Read, Write};
 use tz::error::ReadFault;
@@ -51,7 +51,8 @@ impl From<TzError> for Fault {
 /// The offset that an argument has, if it is a number of 32 bits.
 fn read_offset(value: &str) -> Option<i32>
     ensures some { IfSome result (λ offset. IsNumber value.now offset × FitsSigned w32 offset) }
-    ensures none { IfNone result ((offset : ℤ) → FitsSigned w32 offset → ¬ IsNumber value.now offset) }
+    ensures none { IfNone result ((offset : ℤ) → FitsSigned w32 offset
+        → ¬ IsNumber value.now offset) }
 {
     match read_number(value.as_bytes())? {
         (number, []) => i32::try_from(number).ok(),
@@ -66,12 +67,14 @@ fn zone_of_arguments<A: Allocator + Copy, F: Fn(&str) -> Result<Vec<u8>, ReadFau
     reader: F,
 ) -> Result<TimeZone<A>, Fault>
     requires { F.IsAlwaysCallable reader }
-    ensures ok { IfOk result (λ zone. NamesZone (FnReturnsAt F.Fn reader) (texts_of arguments.now) (own_zone_of zone)) }
+    ensures ok { IfOk result (λ zone. NamesZone (FnReturnsAt F.Fn reader) (texts_of arguments.now)
+        (own_zone_of zone)) }
     ensures bad { IfErr result (λ fault. fault ≡ Fault.Arguments
         → ¬ AreArguments (texts_of arguments.now)) }
     ensures unread { IfErr result (λ fault. fault ≡ Fault.File
         → NamesUnreadFile (FnReturnsAt F.Fn reader) (texts_of arguments.now)) }
-    ensures refused { IfErr result (λ fault. (e : TzError) → fault ≡ Fault.Zone e → NamesRefusedZone (FnReturnsAt F.Fn reader) (texts_of arguments.now)) }
+    ensures refused { IfErr result (λ fault. (e : TzError) → fault ≡ Fault.Zone e
+        → NamesRefusedZone (FnReturnsAt F.Fn reader) (texts_of arguments.now)) }
 {
     match arguments {
         ["-o", number] => {
@@ -97,7 +100,7 @@ fn fail<E: Write>(err: &mut E, line: &str) -> u8
     ensures status { result ≡ 1 }
     ensures line { WritesFront line.now (E.contents err.old) (E.contents err.new) }
 {
-    // An error of the error output has no place where it could be told.
+    // An error of the error output has nowhere to be told.
     let _ = write_front(err, line.as_bytes());
     1
 }
@@ -115,10 +118,12 @@ fn line_of(fault: RunFault) -> &'static str
 
 /// Runs the program and returns its status.
 ///
-/// `arguments` are an option and its value, which name a zone: `-o` that of an offset from UTC in seconds, `-f` that of the TZif
-/// file which the reader finds at a path, `-z` that of a string, as [`TimeZone::from_posix_tz`] returns it. The zone is made first, then the
-/// input is read to its end, and then the answers of its lines are written. An error prints one line to `err`, if that can be written, and
-/// the status is 1, or 2 if the zone is invalid. Whatever the status, what was appended to `out` is empty or a prefix of the answers.
+/// `arguments` are an option and its value, which name a zone: `-o` that of an offset from UTC in
+/// seconds, `-f` that of the TZif file which the reader finds at a path, `-z` that of a string, as
+/// [`TimeZone::from_posix_tz`] returns it. The zone is made first, then the input is read to its
+/// end, and then the answers of its lines are written. An error prints one line to `err`, if that
+/// can be written, and the status is 1, or 2 if the zone is invalid. Whatever the status, what was
+/// appended to `out` is empty or a prefix of the answers.
 pub fn tool<A, F, R, W, E>(
     alloc: A,
     arguments: &[&str],
@@ -135,14 +140,19 @@ where
     E: Write,
     requires { F.IsAlwaysCallable reader }
     ensures status { result ≤ 2 }
-    ensures refused { result ≡ 2 → NamesRefusedZone (FnReturnsAt F.Fn reader) (texts_of arguments.now) }
+    ensures refused { result ≡ 2
+        → NamesRefusedZone (FnReturnsAt F.Fn reader) (texts_of arguments.now) }
     ensures failed { result ≡ 1 → IsFailure (FnReturnsAt F.Fn reader) (texts_of arguments.now)
         (E.contents err.old) (E.contents err.new) }
-    ensures unread { (result ≡ 2) ⊎ ((zone : Zone) → ¬ NamesZone (FnReturnsAt F.Fn reader) (texts_of arguments.now) zone)
+    ensures unread { (result ≡ 2) ⊎ ((zone : Zone)
+        → ¬ NamesZone (FnReturnsAt F.Fn reader) (texts_of arguments.now) zone)
         → (input.new ≡ input.old) × (out.new ≡ out.old) }
-    ensures answered { result ≡ 0 → AnswersInput (FnReturnsAt F.Fn reader) (texts_of arguments.now) (R.remaining input.old) (R.remaining input.new) (W.contents out.old) (W.contents out.new) }
+    ensures answered { result ≡ 0 → AnswersInput (FnReturnsAt F.Fn reader) (texts_of arguments.now)
+        (R.remaining input.old) (R.remaining input.new) (W.contents out.old)
+        (W.contents out.new) }
     ensures written { (out.new ≡ out.old)
-        ⊎ BeginsAnswers (FnReturnsAt F.Fn reader) (texts_of arguments.now) (R.remaining input.old) (R.remaining input.new) (W.contents out.old) (W.contents out.new) }
+        ⊎ BeginsAnswers (FnReturnsAt F.Fn reader) (texts_of arguments.now) (R.remaining input.old)
+        (R.remaining input.new) (W.contents out.old) (W.contents out.new) }
 {
     match zone_of_arguments(alloc, arguments, reader) {
         Ok(zone) => match run(alloc, zone.as_ref(), input, out) {

@@ -3,88 +3,35 @@
 ghost use Rattle.std.specs.Prelude.{◌≡◌, ◌≤◌, ◌⊎◌, ◌∷◌, ◌++◌, [], ℤ, List, length, IfOk, IfSome};
 ghost use Rattle.std.specs.List.{All};
 
-use super::answers::Answers;
-use super::error_names::field_fault_name;
-use super::nanoseconds::Nanoseconds;
+use super::answers::{Answers, field_fault_name};
+use super::lines::Nanoseconds;
 use super::output::Written;
 use super::time_answers::shown_fields;
 use std::alloc::Allocator;
 use tz::datetime::{DateTime, FoundDateTimeKind};
-use tz::inner::{self, EntryTaker, Fields, fields_of, search_zone, window_of};
+use tz::inner::{
+    self, FewEntries, Fields, WindowTypes, ends_by_types, fields_of, plain, types_of_window,
+    window_of,
+};
 use tz::{LocalTimeType, TzError};
-
-/// What a local time means to the clock of a zone.
-#[derive(Clone, Copy)]
-enum LineMeaning<'a> {
-    /// The clock neither shows it nor is set forward over it.
-    Nothing,
-    /// The clock shows it once, in this type.
-    Once(&'a LocalTimeType),
-    /// The clock shows it in the first type, and later in the second.
-    Twice(&'a LocalTimeType, &'a LocalTimeType),
-    /// The clock is set forward over it, from this Unix time on, from the first type to the second.
-    Skipped(i64, &'a LocalTimeType, &'a LocalTimeType),
-    /// Anything else.
-    More,
-}
-
-impl<'a> EntryTaker<'a> for LineMeaning<'a> {
-    ghost use Rattle.std.specs.Prelude.{⊤};
-    ghost use Rattle.tz_query.specs.LineMeanings.{MeansMore};
-
-    ghost gains = { MeansMore };
-
-    ghost takes = { λ meaning r. ⊤ };
-
-    ghost refuses = { λ fault e. ⊥ };
-
-    #[inline(always)]
-    fn shown(
-        &mut self,
-        _unix_time: i64,
-        local_time_type: &'a LocalTimeType,
-    ) -> Result<(), TzError> {
-        *self = match *self {
-            LineMeaning::Nothing => LineMeaning::Once(local_time_type),
-            LineMeaning::Once(before) => LineMeaning::Twice(before, local_time_type),
-            _ => LineMeaning::More,
-        };
-        Ok(())
-    }
-
-    #[inline(always)]
-    fn skipped(
-        &mut self,
-        unix_time: i64,
-        before: &'a LocalTimeType,
-        after: &'a LocalTimeType,
-    ) -> Result<(), TzError> {
-        *self = match *self {
-            LineMeaning::Nothing => LineMeaning::Skipped(unix_time, before, after),
-            _ => LineMeaning::More,
-        };
-        Ok(())
-    }
-}
 
 impl<'a, A: Allocator + Copy> Answers<'a, A> {
     ghost use Rattle.tz_base.specs.Fields.{IsValid, reading as reading_of};
     ghost use Rattle.tz_zone.specs.Clock.{IsClock};
+    ghost use Rattle.tz_zone.specs.WindowTypes.{AreTypesIn, IfMore, IsPositionOf};
     ghost use Rattle.tz_zone.specs.ZoneRef.{zone_of};
+    ghost use Rattle.tz_zone.specs.declared.clock.window_types.WindowTypes.TheVariants.{One};
     ghost use Rattle.tz.specs.DateTimes.{DateTime, ShowsInstant, moment_of};
-    ghost use Rattle.tz.specs.Entries.{Entry, AreEntries};
     ghost use Rattle.tz.specs.Found.{CanBeMade};
     ghost use Rattle.tz.specs.PrintedText.{moment_text};
     ghost use Rattle.tz.specs.Windows.{IsSearchable};
     ghost use Rattle.tz.specs.declared.datetime.found.FoundDateTimeKind.TheVariants.{Skipped as SkippedKind};
     ghost use Rattle.tz_query.specs.Answers.{entry_text, found_lines};
-    ghost use Rattle.tz_query.specs.LineMeanings.{IsMeaningOf};
     ghost use Rattle.tz_query.specs.Lines.{ended, line_feed};
     ghost use Rattle.tz_query.specs.Nanoseconds.{HasNanoseconds, number_of, with_nanoseconds};
     ghost use Rattle.tz_query.specs.Outputs.{Adds, IsAnswered, IsSound, Leaves};
     ghost use Rattle.tz_query.specs.Pages.{EndsLine};
     ghost use Rattle.tz_query.specs.declared.query.lines.Query.TheVariants.{Search};
-    ghost use Rattle.tz_query.specs.declared.query.search_answers.LineMeaning.TheVariants.{Nothing, Once};
 
     /// Writes `front` and the line of fields that a type shows.
     #[inline(always)]
@@ -98,7 +45,8 @@ impl<'a, A: Allocator + Copy> Answers<'a, A> {
         requires front { length front.now ≤ 6 }
         requires valid { IsValid fields.now }
         ensures text { IfOk result (λ _. (u : ℤ) → Adds self.old self.new (front.now
-            ++ (moment_text (moment_of (with_nanoseconds fields.now nanoseconds.now) local_time_type.now u) ++ line_feed ∷ []))) }
+            ++ (moment_text (moment_of (with_nanoseconds fields.now nanoseconds.now)
+            local_time_type.now u) ++ line_feed ∷ []))) }
         ensures ended { IfOk result (λ _. EndsLine self.new.output.page) }
     {
         let suffix = self.suffixes.of(local_time_type);
@@ -114,7 +62,8 @@ impl<'a, A: Allocator + Copy> Answers<'a, A> {
     ) -> Written
         requires front { length front.now ≤ 6 }
         requires nanoseconds { date_time.now.fields.nanoseconds ≡ number_of nanoseconds.now }
-        ensures text { IfOk result (λ _. Adds self.old self.new (front.now ++ (moment_text date_time.now ++ line_feed ∷ []))) }
+        ensures text { IfOk result (λ _. Adds self.old self.new
+            (front.now ++ (moment_text date_time.now ++ line_feed ∷ []))) }
         ensures ended { IfOk result (λ _. EndsLine self.new.output.page) }
     {
         let local_time_type = date_time.local_time_type();
@@ -154,11 +103,13 @@ impl<'a, A: Allocator + Copy> Answers<'a, A> {
     /// Answers fields with these nanoseconds by a search of their own.
     #[inline(never)]
     fn answer_by_search(&mut self, fields: Fields, nanoseconds: Nanoseconds) -> Written
-        ensures { IfOk result (λ _. IsAnswered (Search (with_nanoseconds fields nanoseconds)) self.old self.new) }
+        ensures { IfOk result (λ _. IsAnswered (Search (with_nanoseconds fields nanoseconds))
+            self.old
+            self.new) }
     {
         let mut whole = fields;
         whole.nanoseconds = nanoseconds.number();
-        match inner::find_fields(self.alloc, &whole, self.zone) {
+        match inner::find_fields(self.alloc, &whole, &plain(&self.zone)) {
             Ok(list) => self.push_found(&list.into_inner(), &nanoseconds),
             Err(TzError::DateTime(fault)) => self.output.push_error(field_fault_name(&fault)),
             Err(TzError::OutOfRange) => self.output.push_error("OutOfRange"),
@@ -167,7 +118,8 @@ impl<'a, A: Allocator + Copy> Answers<'a, A> {
         }
     }
 
-    /// Writes the answer lines of fields over which a clock is set forward, or searches for them if a side of the jump is in no year of 32 bits.
+    /// Writes the answer lines of fields over which a clock is set forward, or searches for them if
+    /// a side of the jump is in no year of 32 bits.
     fn push_jump(
         &mut self,
         fields: Fields,
@@ -176,8 +128,11 @@ impl<'a, A: Allocator + Copy> Answers<'a, A> {
         before: &LocalTimeType,
         after: &LocalTimeType,
     ) -> Written
-        ensures { IfOk result (λ _. ((x : DateTime) × (y : DateTime) × ShowsInstant unix_time (number_of nanoseconds) before.now x
-            × ShowsInstant unix_time (number_of nanoseconds) after.now y × CanBeMade (SkippedKind x y) × Adds self.old self.new (ended (found_lines (SkippedKind x y ∷ []))))
+        ensures { IfOk result (λ _. ((x : DateTime) × (y : DateTime)
+            × ShowsInstant unix_time (number_of nanoseconds) before.now x
+            × ShowsInstant unix_time (number_of nanoseconds) after.now y
+            × CanBeMade (SkippedKind x y)
+            × Adds self.old self.new (ended (found_lines (SkippedKind x y ∷ []))))
             ⊎ IsAnswered (Search (with_nanoseconds fields nanoseconds)) self.old self.new) }
     {
         let Some(first) = shown_fields(unix_time, before.ut_offset()) else {
@@ -191,80 +146,89 @@ impl<'a, A: Allocator + Copy> Answers<'a, A> {
         self.push_shown(b" ", &second, after, &nanoseconds)
     }
 
-    /// Writes the answer lines of fields that mean this. Values are passed as copies, so that the loop over lines keeps them in registers.
+    /// Answers fields by the types that the clock has in their window. Values are passed as copies,
+    /// so that the loop over lines keeps them in registers.
     #[inline(never)]
-    fn push_meaning(
+    fn answer_by_types(
         &mut self,
-        meaning: &LineMeaning<'_>,
+        types: &WindowTypes<'a>,
         fields: Fields,
         nanoseconds: Nanoseconds,
-    ) -> Written
-        requires valid { IsValid fields }
-        requires means { (es : List Entry) × AreEntries (IsClock (zone_of self.old.zone)) (reading_of fields) es × IsMeaningOf es meaning.now }
-        ensures { IfOk result (λ _. IsAnswered (Search (with_nanoseconds fields nanoseconds)) self.old self.new) }
-    {
-        match *meaning {
-            LineMeaning::Nothing => self.output.push_count(b'F', 0),
-            LineMeaning::Once(local_time_type) => {
-                self.push_shown(b"F 1\nN ", &fields, local_time_type, &nanoseconds)
-            }
-            LineMeaning::Twice(first, last) => {
-                self.push_shown(b"F 2\nN ", &fields, first, &nanoseconds)?;
-                self.push_shown(b"N ", &fields, last, &nanoseconds)
-            }
-            LineMeaning::Skipped(unix_time, before, after) => {
-                self.push_jump(fields, nanoseconds, unix_time, before, after)
-            }
-            LineMeaning::More => self.answer_by_search(fields, nanoseconds),
-        }
-    }
-
-    /// Searches a window for what its reading means, and returns the type that shows it if that is once. It is not inlined, since a search is too
-    /// long to stand where lines are answered.
-    #[inline(never)]
-    fn type_in_window(
-        &mut self,
-        meaning: &mut LineMeaning<'a>,
         reading: i64,
         low: i64,
         high: i64,
-    ) -> Option<&'a LocalTimeType>
-        requires nothing { meaning.old ≡ Nothing }
+    ) -> Written
+        requires valid { IsValid fields }
+        requires reading { reading ≡ reading_of fields }
         requires searchable { IsSearchable (zone_of self.old.zone) reading low high }
-        requires sound { IsSound self.old }
-        ensures means { (es : List Entry) × AreEntries (IsClock (zone_of self.new.zone)) reading es × IsMeaningOf es meaning.new }
-        ensures once { IfSome result (λ t. meaning.new ≡ Once t) }
+        requires types { AreTypesIn (IsClock (zone_of self.old.zone)) low high types.now }
+        requires position { IfMore types.now (IsPositionOf (zone_of self.old.zone) low) }
+        ensures { IfOk result (λ _. IsAnswered (Search (with_nanoseconds fields nanoseconds))
+            self.old self.new) }
+    {
+        let Ok(ends) = ends_by_types(reading, &plain(&self.zone), *types, low, high) else {
+            return self.answer_by_search(fields, nanoseconds);
+        };
+        match ends.few() {
+            FewEntries::Nothing => self.output.push_count(b'F', 0),
+            FewEntries::Once(_, local_time_type) => {
+                self.push_shown(b"F 1\nN ", &fields, local_time_type, &nanoseconds)
+            }
+            FewEntries::Twice(_, first, _, last) => {
+                self.push_shown(b"F 2\nN ", &fields, first, &nanoseconds)?;
+                self.push_shown(b"N ", &fields, last, &nanoseconds)
+            }
+            FewEntries::Skipped(unix_time, before, after) => {
+                self.push_jump(fields, nanoseconds, unix_time, before, after)
+            }
+            FewEntries::More(_) => self.answer_by_search(fields, nanoseconds),
+        }
+    }
+
+    /// Looks up the types that the clock has in a window, and returns the type if there is one. It
+    /// is not inlined, since this is too long to stand where lines are answered.
+    #[inline(never)]
+    fn type_in_window(
+        &mut self,
+        types: &mut WindowTypes<'a>,
+        low: i64,
+        high: i64,
+    ) -> Option<&'a LocalTimeType>
+        requires { IsSound self.old }
+        ensures types { AreTypesIn (IsClock (zone_of self.new.zone)) low high types.new }
+        ensures position { IfMore types.new (IsPositionOf (zone_of self.new.zone) low) }
+        ensures one { IfSome result (λ t. types.new ≡ One t) }
         ensures kept { Leaves self.old self.new }
     {
         self.follow(low);
-        let Ok(()) = search_zone(meaning, reading, self.zone, low, high) else {
-            // It takes any entry.
-            unreachable!()
-        };
-        match *meaning {
-            LineMeaning::Once(local_time_type) => Some(local_time_type),
+        *types = types_of_window(&plain(&self.zone), low, high);
+        match *types {
+            WindowTypes::One(local_time_type) => Some(local_time_type),
             _ => None,
         }
     }
 
-    /// Answers fields with these nanoseconds: by the type that is kept, if the clock has it throughout their window, or by a search there.
+    /// Answers fields with these nanoseconds: by the type that is kept, if the clock has it
+    /// throughout their window, or by a search there.
     #[inline(always)]
     pub fn answer_search(&mut self, fields: &Fields, nanoseconds: &Nanoseconds) -> Written
         requires { IsSound self.old }
-        ensures { IfOk result (λ _. IsAnswered (Search (with_nanoseconds fields.now nanoseconds.now)) self.old self.new) }
+        ensures { IfOk result (λ _. IsAnswered
+            (Search (with_nanoseconds fields.now nanoseconds.now))
+            self.old self.new) }
     {
         let Ok(()) = fields.check() else {
             return self.answer_by_search(*fields, *nanoseconds);
         };
         let reading = fields.reading();
-        let (low, high) = window_of(self.zone, reading);
+        let (low, high) = window_of(&plain(&self.zone), reading);
         if self.segment.has(low, high) {
             let (output, suffix) = (&mut self.output, &self.segment.suffix);
             return output.push_shown(b"F 1\nN ", fields, suffix, nanoseconds);
         }
-        let mut meaning = LineMeaning::Nothing;
-        let Some(local_time_type) = self.type_in_window(&mut meaning, reading, low, high) else {
-            return self.push_meaning(&meaning, *fields, *nanoseconds);
+        let mut types = WindowTypes::More(None);
+        let Some(local_time_type) = self.type_in_window(&mut types, low, high) else {
+            return self.answer_by_types(&types, *fields, *nanoseconds, reading, low, high);
         };
         self.push_shown(b"F 1\nN ", fields, local_time_type, nanoseconds)
     }

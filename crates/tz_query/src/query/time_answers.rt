@@ -1,23 +1,80 @@
-//! Answers of instants.
+//! The segment that is kept from line to line: the clock has one type throughout it, so an instant
+//! in it need not be looked up.
 
-ghost use Rattle.std.specs.Prelude.{◌≡◌, ◌+ℤ◌, IfSome, IfNone};
-ghost use Rattle.tz_base.specs.Fields.{IsCivil, IsReading};
+ghost use Rattle.std.specs.Prelude.{◌≤ℤ◌, IsTrue, ◌≡◌, ◌+ℤ◌, IfSome, IfNone, IfOk, IfErr, OnOk};
+ghost use Rattle.tz_base.specs.Fields.{IsCivil, IsReading, IsFirstFault, IsValid, day_of};
+ghost use Rattle.tz.specs.Windows.{IsSmall};
+ghost use Rattle.tz_query.specs.MeetingDates.{IsInYears, IsWeekOf, day_after, midnight};
 
-use super::answers::Answers;
-use super::error_names::fault_name;
-use super::nanoseconds::Nanoseconds;
+use super::answers::{Answers, Suffix, fault_name, field_fault_name};
+use super::lines::Nanoseconds;
 use super::output::{Output, Written};
-use super::type_suffixes::Suffix;
 use std::alloc::Allocator;
-use tz::LocalTimeType;
-use tz::constants::NANOSECONDS_PER_SECOND;
+use tz::constants::{NANOSECONDS_PER_SECOND, SECONDS_PER_DAY, SECONDS_PER_WEEK};
+use tz::error::datetime::DateTimeError;
 use tz::inner::{Fields, local_reading};
+use tz::{LocalTimeType, TzError, UtcDateTime};
 
-/// What a clock with this offset from UTC shows at a Unix time, if its year is one of 32 bits. The nanoseconds are 0: a line shows those of its
-/// query.
-#[inline(always)]
+/// 30 days in seconds. If two lookups, one after the other, are for instants less than this apart,
+/// lines are taken to be in order, so that another segment is worth keeping.
+const NEAR: u64 = 2_592_000;
+
+/// Instants throughout which a clock has one type.
+#[derive(Drop)]
+pub struct KeptSegment {
+    /// The first instant. The segment is empty if this is after the last.
+    pub from: i64,
+    /// The last instant.
+    pub last: i64,
+    /// The suffix of the type.
+    pub suffix: Suffix,
+}
+
+impl KeptSegment {
+    /// Whether the instants from the first one to the second are in the segment.
+    pub fn has(&self, low: i64, high: i64) -> bool
+        ensures { IsTrue result → (self.now.from ≤ℤ low) × (high ≤ℤ self.now.last) }
+    {
+        self.from <= low && high <= self.last
+    }
+}
+
+impl<'a, A: Allocator + Copy> Answers<'a, A> {
+    ghost use Rattle.tz_query.specs.Outputs.{IsSound, Leaves};
+
+    /// Keeps the segment around an instant, if the clock has a type there.
+    #[inline(never)]
+    pub fn keep_segment(&mut self, unix_time: i64)
+        requires { IsSound self.old }
+        ensures { Leaves self.old self.new }
+    {
+        let segment = self.zone.segment_at(unix_time);
+        if let Some(local_time_type) = segment.local_time_type() {
+            self.segment.from = segment.from();
+            self.segment.last = segment.last();
+            self.segment.suffix = *self.suffixes.of(local_time_type);
+        }
+    }
+
+    /// Keeps the segment around an instant that is looked up, if the lines seem to be in order: if
+    /// the lookup before was for an instant near it. It serves the lines after this one.
+    pub fn follow(&mut self, unix_time: i64)
+        requires { IsSound self.old }
+        ensures { Leaves self.old self.new }
+    {
+        let is_near = unix_time.abs_diff(self.missed) < NEAR;
+        self.missed = unix_time;
+        if is_near {
+            self.keep_segment(unix_time);
+        }
+    }
+}
+
+/// What a clock with this offset from UTC shows at a Unix time, if its year is one of 32 bits. The
+/// nanoseconds are 0: a line shows those of its query.
 pub fn shown_fields(unix_time: i64, ut_offset: i32) -> Option<Fields>
-    ensures some { IfSome result (λ f. IsCivil (unix_time +ℤ ut_offset) 0 f × IsReading (unix_time +ℤ ut_offset)) }
+    ensures some { IfSome result (λ f. IsCivil (unix_time +ℤ ut_offset) 0 f
+        × IsReading (unix_time +ℤ ut_offset)) }
     ensures none { IfNone result (¬ IsReading (unix_time +ℤ ut_offset)) }
 {
     let reading = local_reading(unix_time, ut_offset)?;
@@ -41,8 +98,10 @@ impl<A: Allocator> Output<A> {
         nanoseconds: &Nanoseconds,
         suffix: &Suffix,
     ) -> Written
-        ensures { (z : Zone) → IsClock z unix_time suffix.now.local_time_type → IfOk result (λ _. (text : List ℕ)
-            × IsTimeAnswer z unix_time (number_of nanoseconds.now) text × (written self.new ≡ written self.old ++ ended (text ∷ []))) }
+        ensures { (z : Zone) → IsClock z unix_time suffix.now.local_time_type
+            → IfOk result (λ _. (text : List ℕ)
+            × IsTimeAnswer z unix_time (number_of nanoseconds.now) text
+            × (written self.new ≡ written self.old ++ ended (text ∷ []))) }
     {
         let Some(fields) = shown_fields(unix_time, suffix.local_time_type.ut_offset()) else {
             return self.push_error("OutOfRange");
@@ -59,8 +118,8 @@ impl<'a, A: Allocator + Copy> Answers<'a, A> {
     ghost use Rattle.tz_query.specs.Nanoseconds.{number_of};
     ghost use Rattle.tz_query.specs.Outputs.{IsAnswered, IsSound, Leaves};
 
-    /// The type of the clock at an instant outside the kept segment, if it has one. It is not inlined, since a lookup is too long to stand where
-    /// lines are answered.
+    /// The type of the clock at an instant outside the kept segment, if it has one. It is not
+    /// inlined, since a lookup is too long to stand where lines are answered.
     #[inline(never)]
     fn type_at(&mut self, unix_time: i64) -> Option<&'a LocalTimeType>
         requires { IsSound self.old }
@@ -75,7 +134,8 @@ impl<'a, A: Allocator + Copy> Answers<'a, A> {
     #[inline(always)]
     pub fn answer_time(&mut self, unix_time: i64, nanoseconds: &Nanoseconds) -> Written
         requires { IsSound self.old }
-        ensures { IfOk result (λ _. IsAnswered (Time unix_time (number_of nanoseconds.now)) self.old self.new) }
+        ensures { IfOk result (λ _. IsAnswered (Time unix_time (number_of nanoseconds.now)) self.old
+            self.new) }
     {
         if self.segment.has(unix_time, unix_time) {
             let suffix = &self.segment.suffix;
@@ -88,12 +148,13 @@ impl<'a, A: Allocator + Copy> Answers<'a, A> {
         self.output.push_instant(unix_time, nanoseconds, suffix)
     }
 
-    /// Looks an instant up once more, for the error, which [`Answers::type_at`] drops. It finds no type then: the arm for one is there since
-    /// `type_at` promises nothing of `None`.
+    /// Looks an instant up once more, for the error, which [`Answers::type_at`] drops. It finds no
+    /// type then: the arm for one is there since `type_at` promises nothing of `None`.
     #[cold]
     #[inline(never)]
     fn answer_by_lookup(&mut self, unix_time: i64, nanoseconds: Nanoseconds) -> Written
-        ensures { IfOk result (λ _. IsAnswered (Time unix_time (number_of nanoseconds)) self.old self.new) }
+        ensures { IfOk result
+            (λ _. IsAnswered (Time unix_time (number_of nanoseconds)) self.old self.new) }
     {
         match self.zone.find_local_time_type(unix_time) {
             Ok(local_time_type) => {
@@ -114,5 +175,70 @@ impl<'a, A: Allocator + Copy> Answers<'a, A> {
             return self.output.push_error("InvalidNanoseconds");
         }
         self.answer_time(unix_time, &Nanoseconds::new(nanoseconds))
+    }
+}
+
+/// The Unix time at which the first day begins in UTC, or the first error in the fields.
+fn first_day_begins(first: &Fields) -> Result<i64, DateTimeError>
+    ensures ok { IfOk result (λ begins. (begins ≡ midnight (day_of first.now)) × IsSmall begins) }
+    ensures valid { OnOk result (IsValid first.now) }
+    ensures err { IfErr result (IsFirstFault first.now) }
+{
+    // Second 60 belongs to the next minute, which may be of the next day, or of no year.
+    let second = if first.second == 60 { 59 } else { first.second };
+    let (year, month, month_day) = (first.year, first.month, first.month_day);
+    let (hour, minute, nanoseconds) = (first.hour, first.minute, first.nanoseconds);
+    match UtcDateTime::new(year, month, month_day, hour, minute, second, nanoseconds) {
+        Ok(date_time) => {
+            let unix_time = date_time.unix_time();
+            Ok(unix_time - unix_time.rem_euclid(SECONDS_PER_DAY))
+        }
+        Err(TzError::DateTime(fault)) => Err(fault),
+        Err(_) => unreachable!(),
+    }
+}
+
+/// The fields a number of weeks later, if their year is one of 32 bits.
+fn week_of(first: &Fields, begins: i64, weeks: u8) -> Option<Fields>
+    requires day { begins ≡ midnight (day_of first.now) }
+    requires small { IsSmall begins }
+    ensures some { IfSome result (IsWeekOf first.now weeks) }
+    ensures inside { IfSome result (λ _. IsInYears (day_after first.now weeks)) }
+    ensures none { IfNone result (¬ IsInYears (day_after first.now weeks)) }
+{
+    let unix_time = begins + SECONDS_PER_WEEK * i64::from(weeks);
+    let day = UtcDateTime::from_timespec(unix_time, 0).ok()?;
+    Some(Fields {
+        year: day.year(),
+        month: day.month(),
+        month_day: day.month_day(),
+        ..*first
+    })
+}
+
+impl<'a, A: Allocator + Copy> Answers<'a, A> {
+    ghost use Rattle.tz_query.specs.Outputs.{IsAnswered, IsSound};
+    ghost use Rattle.tz_query.specs.declared.query.lines.Query.TheVariants.{Meeting};
+
+    /// Answers a weekly meeting, which takes place in `count` weeks, in the first of them at these
+    /// fields: for each week, by a search for its fields, or that its year is out of range.
+    #[inline(never)]
+    pub fn answer_meeting(&mut self, count: u8, first: &Fields) -> Written
+        requires { IsSound self.old }
+        ensures { IfOk result (λ _. IsAnswered (Meeting count first.now) self.old self.new) }
+    {
+        let begins = match first_day_begins(first) {
+            Ok(begins) => begins,
+            Err(fault) => return self.output.push_error(field_fault_name(&fault)),
+        };
+        self.output.push_count(b'W', usize::from(count))?;
+        let nanoseconds = Nanoseconds::new(first.nanoseconds);
+        for weeks in 0..count {
+            match week_of(first, begins, weeks) {
+                Some(fields) => self.answer_search(&fields, &nanoseconds)?,
+                None => self.output.push_error("OutOfRange")?,
+            }
+        }
+        Ok(())
     }
 }

@@ -1,11 +1,15 @@
-//! Alternate rules: their parts, the ranges of these, and when daylight saving time starts and ends.
+//! Alternate rules: their parts, the ranges of these, and when daylight saving time starts and
+//! ends.
 
 ghost use Rattle.std.specs.Prelude.{◌≡◌, OnOk, IfOk, IfErr, IfSome, IfNone, MatchBool};
-ghost use Rattle.tz_rule.specs.Alternate.{start_of, end_of, alternate_of, IsRuleOffset, IsRuleTime, IsInRuleRange, IsRangeFault, IsFirstRuleFault, IsConsistentRule};
-ghost use Rattle.tz_rule.specs.Pairing.{IsConflict, IsInconsistent};
+ghost use Rattle.tz_rule.specs.Alternate.{start_of, end_of, alternate_of, IsRuleOffset, IsRuleTime, IsInRuleRange, IsRangeFault, IsFirstRuleFault, IsConsistentRule, switch_of, AreRuleDays, IsNearYear};
+ghost use Rattle.tz_rule.specs.Pairing.{IsConflict, IsInconsistent, EndsNextYear};
+ghost use Rattle.std.specs.Bool.{OnTrue};
+ghost use Rattle.tz_rule.specs.LikelyYears.{HasInnerSwitches};
+ghost use Rattle.tz_rule.specs.YearTables.{IsTableOf};
+ghost use Rattle.tz_rule.specs.ZeroRule.{zero_rule};
 
-use super::alternate_data::AlternateData;
-use super::day_data::DayData;
+use super::rule_day::DayData;
 use super::year_table::YearTable;
 use super::{LocalTimeType, RuleDay};
 use std::fmt;
@@ -13,14 +17,14 @@ use std::marker::Model;
 use tz_base::error::timezone::TransitionRuleError;
 
 /// Whether the offset is above -25 and below 26 hours.
-fn is_rule_offset(offset: i32) -> bool
+const fn is_rule_offset(offset: i32) -> bool
     ensures { MatchBool result (IsRuleOffset offset) (¬ IsRuleOffset offset) }
 {
     -90_000 < offset && offset < 93_600
 }
 
 /// Whether the time is less than a week either way.
-fn is_rule_time(time: i32) -> bool
+const fn is_rule_time(time: i32) -> bool
     ensures { MatchBool result (IsRuleTime time) (¬ IsRuleTime time) }
 {
     -604_800 < time && time < 604_800
@@ -44,7 +48,7 @@ impl Parts {
     ghost use Rattle.tz_rule.specs.YearTables.{start_table, end_table};
 
     /// Checks the offsets and the times, in the order of their errors.
-    pub(super) fn check_range(&self) -> Result<(), TransitionRuleError>
+    pub(super) const fn check_range(&self) -> Result<(), TransitionRuleError>
         ensures ok { OnOk result (IsInRuleRange (rule_of self.now)) }
         ensures err { IfErr result (IsRangeFault (rule_of self.now)) }
     {
@@ -60,10 +64,10 @@ impl Parts {
         Ok(())
     }
 
-    /// How many seconds after 00:00 UTC of January 1st daylight saving time starts, by the kind of the year. `day` is the part `dst_start` as a
-    /// `RuleDay`, which saves its conversion.
+    /// How many seconds after 00:00 UTC of January 1st daylight saving time starts, by the kind of
+    /// the year. `day` is the part `dst_start` as a `RuleDay`, which saves its conversion.
     #[inline(always)]
-    pub(super) fn starts(&self, day: &RuleDay) -> YearTable
+    pub(super) const fn starts(&self, day: &RuleDay) -> YearTable
         requires range { IsInRuleRange (rule_of self.now) }
         requires day { day.now ≡ (rule_of self.now).dst_start }
         ensures table { result.0 ≡ start_table (rule_of self.now) }
@@ -72,9 +76,10 @@ impl Parts {
         YearTable::of_day(day, self.dst_start_time - self.std.ut_offset())
     }
 
-    /// How many seconds after 00:00 UTC of January 1st it ends, by the kind of the year. `day` is the part `dst_end`.
+    /// How many seconds after 00:00 UTC of January 1st it ends, by the kind of the year. `day` is
+    /// the part `dst_end`.
     #[inline(always)]
-    pub(super) fn ends(&self, day: &RuleDay) -> YearTable
+    pub(super) const fn ends(&self, day: &RuleDay) -> YearTable
         requires range { IsInRuleRange (rule_of self.now) }
         requires day { day.now ≡ (rule_of self.now).dst_end }
         ensures table { result.0 ≡ end_table (rule_of self.now) }
@@ -86,12 +91,14 @@ impl Parts {
 
 /// Standard time and daylight saving time, and when each begins in every year.
 ///
-/// A start and an end never change their order from one year to another, at any distance in years. If some year's end comes before its start,
-/// daylight saving time lasts from each start to its end in the next year, and otherwise to its end in the same year.
+/// A start and an end never change their order from one year to another, at any distance in years.
+/// If some year's end comes before its start, daylight saving time lasts from each start to its end
+/// in the next year, and otherwise to its end in the same year.
 #[derive(Clone, Copy)]
 pub struct AlternateTime {
     plain: AlternateData,
-    // Both days once more: `dst_start()` and `dst_end()` lend a `RuleDay`, which the plain data has as numbers (`DayData`).
+    // Both days once more: `dst_start()` and `dst_end()` lend a `RuleDay`, which the plain data has
+    // as numbers (`DayData`).
     dst_start: RuleDay,
     dst_end: RuleDay,
 }
@@ -113,12 +120,13 @@ impl Model for AlternateTime {
 }
 
 impl AlternateTime {
-    /// The rule with these parts. Times are seconds from 00:00 of the local day; the start's is in standard time and the end's in daylight saving
-    /// time. (POSIX.1-2017, Base Definitions, 8.3)
+    /// The rule with these parts. Times are seconds from 00:00 of the local day; the start's is in
+    /// standard time and the end's in daylight saving time. (POSIX.1-2017, Base Definitions, 8.3)
     ///
     /// Offsets are above -25 and below 26 hours, and times less than a week either way.
     ///
-    /// The rule of New York, with daylight saving time from 2:00 on the second Sunday of March to 2:00 on the first Sunday of November:
+    /// The rule of New York, with daylight saving time from 2:00 on the second Sunday of March to
+    /// 2:00 on the first Sunday of November:
     ///
     /// ```rust
     /// pub fn new_york_rule() -> Result<AlternateTime, TzError> {
@@ -134,11 +142,13 @@ impl AlternateTime {
     ///
     /// The first of these:
     ///
-    /// - [`TransitionRuleError::InvalidStdUtcOffset`] if the offset of standard time is out of range;
+    /// - [`TransitionRuleError::InvalidStdUtcOffset`] if the offset of standard time is out of
+    ///   range;
     /// - [`TransitionRuleError::InvalidDstUtcOffset`] if that of daylight saving time is;
     /// - [`TransitionRuleError::InvalidDstStartEndTime`] if one of the two times is;
-    /// - [`TransitionRuleError::InconsistentRule`] if start and end change their order from one year to another.
-    pub fn new(
+    /// - [`TransitionRuleError::InconsistentRule`] if start and end change their order from one
+    ///   year to another.
+    pub const fn new(
         std: LocalTimeType,
         dst: LocalTimeType,
         dst_start: RuleDay,
@@ -146,9 +156,12 @@ impl AlternateTime {
         dst_end: RuleDay,
         dst_end_time: i32,
     ) -> Result<Self, TransitionRuleError>
-        ensures value { IfOk result (λ r. r ≡ alternate_of std dst dst_start dst_start_time dst_end dst_end_time) }
-        ensures ok { OnOk result (IsConsistentRule (alternate_of std dst dst_start dst_start_time dst_end dst_end_time)) }
-        ensures err { IfErr result (IsFirstRuleFault (alternate_of std dst dst_start dst_start_time dst_end dst_end_time)) }
+        ensures value { IfOk result (λ r. r ≡ alternate_of std dst dst_start dst_start_time dst_end
+            dst_end_time) }
+        ensures ok { OnOk result (IsConsistentRule
+            (alternate_of std dst dst_start dst_start_time dst_end dst_end_time)) }
+        ensures err { IfErr result (IsFirstRuleFault
+            (alternate_of std dst dst_start dst_start_time dst_end dst_end_time)) }
     {
         let parts = Parts {
             std,
@@ -158,7 +171,10 @@ impl AlternateTime {
             dst_end: DayData::of(&dst_end),
             dst_end_time,
         };
-        parts.check_range()?;
+        match parts.check_range() {
+            Ok(()) => {}
+            Err(error) => return Err(error),
+        }
         let starts = parts.starts(&dst_start);
         let ends = parts.ends(&dst_end);
         let Some(ends_next_year) = starts.order(&ends) else {
@@ -171,9 +187,10 @@ impl AlternateTime {
         })
     }
 
-    /// Why parts in range make no rule: two years x and y and a distance k in years, such that the start of x comes after the end of x + k, and the
-    /// start of y before the end of y + k. `None` if they make one, or are out of range.
-    pub fn conflict(
+    /// Why parts in range make no rule: two years x and y and a distance k in years, such that the
+    /// start of x comes after the end of x + k, and the start of y before the end of y + k. `None`
+    /// if they make one, or are out of range.
+    pub const fn conflict(
         std: LocalTimeType,
         dst: LocalTimeType,
         dst_start: RuleDay,
@@ -181,11 +198,14 @@ impl AlternateTime {
         dst_end: RuleDay,
         dst_end_time: i32,
     ) -> Option<(i32, i32, i32)>
-        ensures range { IfSome result (λ _. IsInRuleRange (alternate_of std dst dst_start dst_start_time dst_end dst_end_time)) }
+        ensures range { IfSome result (λ _. IsInRuleRange
+            (alternate_of std dst dst_start dst_start_time dst_end dst_end_time)) }
         ensures some { IfSome result (λ c. IsConflict
             (start_of (alternate_of std dst dst_start dst_start_time dst_end dst_end_time))
-            (end_of (alternate_of std dst dst_start dst_start_time dst_end dst_end_time)) c.0 c.1 c.2) }
-        ensures none { IfNone result (¬ (IsInRuleRange (alternate_of std dst dst_start dst_start_time dst_end dst_end_time)
+            (end_of (alternate_of std dst dst_start dst_start_time dst_end dst_end_time))
+            c.0 c.1 c.2) }
+        ensures none { IfNone result (¬
+            (IsInRuleRange (alternate_of std dst dst_start dst_start_time dst_end dst_end_time)
             × IsInconsistent
             (start_of (alternate_of std dst dst_start dst_start_time dst_end dst_end_time))
             (end_of (alternate_of std dst dst_start dst_start_time dst_end dst_end_time)))) }
@@ -196,42 +216,44 @@ impl AlternateTime {
     }
 
     /// The type of standard time.
-    pub fn std(&self) -> &LocalTimeType
+    pub const fn std(&self) -> &LocalTimeType
         ensures { result.now ≡ self.now.std }
     {
         self.plain.std()
     }
 
     /// The type of daylight saving time.
-    pub fn dst(&self) -> &LocalTimeType
+    pub const fn dst(&self) -> &LocalTimeType
         ensures { result.now ≡ self.now.dst }
     {
         self.plain.dst()
     }
 
     /// The day on which daylight saving time starts.
-    pub fn dst_start(&self) -> &RuleDay
+    pub const fn dst_start(&self) -> &RuleDay
         ensures { result.now ≡ self.now.dst_start }
     {
         &self.dst_start
     }
 
-    /// When it starts on that day, in seconds from 00:00 of standard time, less than a week either way.
-    pub fn dst_start_time(&self) -> i32
+    /// When it starts on that day, in seconds from 00:00 of standard time, less than a week either
+    /// way.
+    pub const fn dst_start_time(&self) -> i32
         ensures { result ≡ self.now.dst_start_time }
     {
         self.plain.dst_start_time()
     }
 
     /// The day on which daylight saving time ends.
-    pub fn dst_end(&self) -> &RuleDay
+    pub const fn dst_end(&self) -> &RuleDay
         ensures { result.now ≡ self.now.dst_end }
     {
         &self.dst_end
     }
 
-    /// When it ends on that day, in seconds from 00:00 of daylight saving time, less than a week either way.
-    pub fn dst_end_time(&self) -> i32
+    /// When it ends on that day, in seconds from 00:00 of daylight saving time, less than a week
+    /// either way.
+    pub const fn dst_end_time(&self) -> i32
         ensures { result ≡ self.now.dst_end_time }
     {
         self.plain.dst_end_time()
@@ -249,7 +271,7 @@ impl AlternateTime {
     }
 
     /// The rule as plain data, with its tables.
-    pub(crate) fn plain(&self) -> &AlternateData
+    pub(crate) const fn plain(&self) -> &AlternateData
         ensures { result.now ≡ self.now }
     {
         &self.plain
@@ -263,7 +285,8 @@ impl PartialEq for AlternateTime {
 
     ghost eq = { same_alternate };
 
-    ghost laws = { partial_equiv_from_equiv (IsEquivalence-from_equality same_alternate Decides-same_alternate) };
+    ghost laws = { partial_equiv_from_equiv
+        (IsEquivalence-from_equality same_alternate Decides-same_alternate) };
 
     fn eq(&self, other: &AlternateTime) -> bool {
         let (a, b) = (&self.plain, &other.plain);
@@ -293,5 +316,240 @@ impl fmt::Debug for AlternateTime {
             .field("dst_end", self.dst_end())
             .field("dst_end_time", &self.dst_end_time())
             .finish()
+    }
+}
+
+/// Standard time and daylight saving time, and when each begins in every year, in C's layout.
+#[repr(C)]
+#[derive(Clone, Copy)]
+pub struct AlternateData {
+    parts: Parts,
+    ends_next_year: bool,
+    has_inner_switches: bool,
+    starts: YearTable,
+    ends: YearTable,
+}
+
+impl Model for AlternateData {
+    ghost use Rattle.tz_rule.specs.Alternate.{AlternateTime};
+
+    ghost Value = { AlternateTime };
+
+    ghost use Rattle.tz_rule.specs.Parts.{rule_of};
+    ghost use Rattle.tz_rule.specs.RuleInside.{IsRuleInside, parts_of, ends_come_first, kept_of, kept_rule};
+
+    ghost view = { λ r. rule_of r.parts };
+
+    ghost invariant = { IsRuleInside };
+
+    ghost inverse = { kept_of };
+
+    ghost inverse_ok = { λ r k. kept_rule r k };
+}
+
+impl AlternateData {
+    ghost use Rattle.tz_rule.specs.Parts.{rule_of};
+    ghost use Rattle.tz_rule.specs.YearTables.{start_table, end_table, ComesFirst, ChangesOrder};
+
+    /// The rule with these parts, as `AlternateTime::new` makes it.
+    #[inline(always)]
+    pub const fn new(
+        std: LocalTimeType,
+        dst: LocalTimeType,
+        dst_start: DayData,
+        dst_start_time: i32,
+        dst_end: DayData,
+        dst_end_time: i32,
+    ) -> Result<Self, TransitionRuleError>
+        ensures value { IfOk result (λ r. r ≡ alternate_of std dst dst_start dst_start_time dst_end
+            dst_end_time) }
+        ensures ok { OnOk result (IsConsistentRule
+            (alternate_of std dst dst_start dst_start_time dst_end dst_end_time)) }
+        ensures err { IfErr result (IsFirstRuleFault
+            (alternate_of std dst dst_start dst_start_time dst_end dst_end_time)) }
+    {
+        match AlternateTime::new(
+            std,
+            dst,
+            dst_start.day(),
+            dst_start_time,
+            dst_end.day(),
+            dst_end_time,
+        ) {
+            Ok(rule) => Ok(*rule.plain()),
+            Err(error) => Err(error),
+        }
+    }
+
+    /// The rule of parts in range with their tables, whose starts and ends keep their order.
+    #[inline(always)]
+    pub(super) const fn of_tables(
+        parts: Parts,
+        starts: YearTable,
+        ends: YearTable,
+        ends_next_year: bool,
+    ) -> Self
+        requires range { IsInRuleRange (rule_of parts) }
+        requires days { AreRuleDays (rule_of parts) }
+        requires starts { starts.0 ≡ start_table (rule_of parts) }
+        requires ends { ends.0 ≡ end_table (rule_of parts) }
+        requires order { ¬ ChangesOrder starts.0 ends.0 }
+        requires first { MatchBool ends_next_year (ComesFirst ends.0 starts.0)
+            (¬ ComesFirst ends.0 starts.0) }
+        ensures value { result ≡ rule_of parts }
+        ensures ok { IsConsistentRule (rule_of parts) }
+    {
+        AlternateData {
+            parts,
+            ends_next_year,
+            has_inner_switches: starts.is_inner() && ends.is_inner(),
+            starts,
+            ends,
+        }
+    }
+
+    /// Why parts in range make no rule, as `AlternateTime::conflict` says it.
+    pub const fn conflict(
+        std: LocalTimeType,
+        dst: LocalTimeType,
+        dst_start: DayData,
+        dst_start_time: i32,
+        dst_end: DayData,
+        dst_end_time: i32,
+    ) -> Option<(i32, i32, i32)>
+        ensures range { IfSome result (λ _. IsInRuleRange
+            (alternate_of std dst dst_start dst_start_time dst_end dst_end_time)) }
+        ensures some { IfSome result (λ c. IsConflict
+            (start_of (alternate_of std dst dst_start dst_start_time dst_end dst_end_time))
+            (end_of (alternate_of std dst dst_start dst_start_time dst_end dst_end_time))
+            c.0 c.1 c.2) }
+        ensures none { IfNone result (¬
+            (IsInRuleRange (alternate_of std dst dst_start dst_start_time dst_end dst_end_time)
+            × IsInconsistent
+            (start_of (alternate_of std dst dst_start dst_start_time dst_end dst_end_time))
+            (end_of (alternate_of std dst dst_start dst_start_time dst_end dst_end_time)))) }
+    {
+        let parts = Parts {
+            std,
+            dst,
+            dst_start,
+            dst_start_time,
+            dst_end,
+            dst_end_time,
+        };
+        match parts.check_range() {
+            Ok(()) => {}
+            Err(_) => return None,
+        }
+        let starts = parts.starts(&dst_start.day());
+        let ends = parts.ends(&dst_end.day());
+        starts.conflict(&ends)
+    }
+
+    /// The rule whose bytes are all zero: UTC without a name all year.
+    pub const fn zeros() -> Self
+        ensures { result ≡ zero_rule }
+    {
+        let parts = Parts {
+            std: LocalTimeType::utc(),
+            dst: LocalTimeType::utc(),
+            dst_start: DayData::zeros(),
+            dst_start_time: 0,
+            dst_end: DayData::zeros(),
+            dst_end_time: 0,
+        };
+        AlternateData {
+            parts,
+            ends_next_year: false,
+            has_inner_switches: false,
+            starts: YearTable::zeros(),
+            ends: YearTable::zeros(),
+        }
+    }
+
+    /// The type of standard time.
+    pub const fn std(&self) -> &LocalTimeType
+        ensures { result.now ≡ self.now.std }
+    {
+        &self.parts.std
+    }
+
+    /// The type of daylight saving time.
+    pub const fn dst(&self) -> &LocalTimeType
+        ensures { result.now ≡ self.now.dst }
+    {
+        &self.parts.dst
+    }
+
+    /// The day on which daylight saving time starts.
+    pub fn dst_start(&self) -> &DayData
+        ensures { result.now ≡ self.now.dst_start }
+    {
+        &self.parts.dst_start
+    }
+
+    /// When it starts on that day, in seconds from 00:00 of standard time.
+    pub const fn dst_start_time(&self) -> i32
+        ensures { result ≡ self.now.dst_start_time }
+    {
+        self.parts.dst_start_time
+    }
+
+    /// The day on which daylight saving time ends.
+    pub fn dst_end(&self) -> &DayData
+        ensures { result.now ≡ self.now.dst_end }
+    {
+        &self.parts.dst_end
+    }
+
+    /// When it ends on that day, in seconds from 00:00 of daylight saving time.
+    pub const fn dst_end_time(&self) -> i32
+        ensures { result ≡ self.now.dst_end_time }
+    {
+        self.parts.dst_end_time
+    }
+
+    /// The table of the starts of daylight saving time, or of its ends.
+    #[inline(always)]
+    pub(super) const fn table(&self, is_end: bool) -> &YearTable
+        ensures { IsTableOf (switch_of self.now is_end) result.now.0 }
+    {
+        if is_end { &self.ends } else { &self.starts }
+    }
+
+    /// The instant at which daylight saving time starts, or ends, in a year.
+    pub(crate) const fn switch_in(&self, is_end: bool, year: i32) -> i64
+        ensures value { result ≡ switch_of self.now is_end year }
+        ensures bound { IsNearYear result year }
+    {
+        self.parts_are_sound();
+        self.table(is_end).in_year(year)
+    }
+
+    /// Whether the end comes before the start in some year, so that daylight saving time lasts from
+    /// each start to its end in the next year.
+    #[inline(always)]
+    pub(crate) const fn ends_next_year(&self) -> bool
+        ensures { MatchBool result (EndsNextYear (start_of self.now) (end_of self.now))
+            (¬ EndsNextYear (start_of self.now) (end_of self.now)) }
+    {
+        self.ends_next_year
+    }
+
+    /// Whether each start and each end is ten days or more from the ends of its year.
+    #[inline(always)]
+    pub(super) const fn has_inner_switches(&self) -> bool
+        ensures { OnTrue result (HasInnerSwitches self.now) }
+    {
+        self.has_inner_switches
+    }
+
+    /// The parts are those of a valid rule. This does nothing; its contract is what holds of every
+    /// value.
+    pub(crate) const fn parts_are_sound(&self)
+        ensures rule { IsConsistentRule self.now }
+        ensures days { AreRuleDays self.now }
+    {
+        let _ = &self.parts;
     }
 }

@@ -1,18 +1,19 @@
-//! Whether a rule is consistent: its starts and ends keep one order over all years and at each distance in years. If not, a conflict shows it.
+//! Whether a rule is consistent: its starts and ends keep one order over all years and at each
+//! distance in years. If not, a conflict shows it.
 //!
-//! Consistency is determined by the tables of both alone, without a year, and a conflict is looked for in the years from 1972 to 2000.
+//! Consistency is determined by the tables of both alone, without a year, and a conflict is looked
+//! for in the years from 1972 to 2000.
 
 ghost use Rattle.std.specs.Prelude.{◌≡◌, ◌<◌, ◌≤◌, ℤ, pos, ◌+ℤ◌, ◌≤ℤ◌, ◌<ℤ◌, IfSome, IfNone, MatchBool};
 ghost use Rattle.tz_rule.specs.Kinds.{first_kind as first_kind_of, second_kind as second_kind_of, first_days as first_days_of};
 ghost use Rattle.tz_rule.specs.Pairing.{IsConflict};
 ghost use Rattle.tz_rule.specs.YearTables.{instant_in, next_entry, IsNear, ComesFirst, ComesBeforeNext, ComesAfterNext, ChangesAcrossYears, ChangesOrder};
 
-use super::year_kinds::KINDS;
-use super::year_table::YearTable;
+use super::year_table::{KINDS, YearTable};
 use tz_base::constants::{SECONDS_PER_DAY, SECONDS_PER_NORMAL_YEAR};
 
-/// How many kinds there are of two years that follow one another: from 0 two normal years, from 7 a normal and a leap year, from 14 a leap and a
-/// normal year.
+/// How many kinds there are of two years that follow one another: from 0 two normal years, from 7 a
+/// normal and a leap year, from 14 a leap and a normal year.
 const PAIR_KINDS: usize = 21;
 
 /// The kind of the first year of each pair kind.
@@ -28,33 +29,34 @@ static SECOND_KINDS: [u8; PAIR_KINDS] = [
 /// The first of the years that stand for all years.
 const FIRST_MODEL_YEAR: i32 = 1972;
 
-/// How many there are. Each kind of year is that of one of 1972 to 1999, and each pair kind that of one of these and the year after it.
+/// How many there are. Each kind of year is that of one of 1972 to 1999, and each pair kind that of
+/// one of these and the year after it.
 const MODEL_YEARS: u8 = 29;
 
 /// The kind of the first year of a pair kind.
 #[inline(always)]
-fn first_kind(pair: usize) -> usize
+const fn first_kind(pair: usize) -> usize
     requires { pair < 21 }
     ensures value { result ≡ first_kind_of pair }
     ensures below { result < 14 }
 {
-    usize::from(FIRST_KINDS[pair])
+    FIRST_KINDS[pair] as usize
 }
 
 /// The kind of the second year of a pair kind.
 #[inline(always)]
-fn second_kind(pair: usize) -> usize
+const fn second_kind(pair: usize) -> usize
     requires { pair < 21 }
     ensures value { result ≡ second_kind_of pair }
     ensures below { result < 14 }
 {
-    usize::from(SECOND_KINDS[pair])
+    SECOND_KINDS[pair] as usize
 }
 
 /// The days of the first year of a pair kind.
 #[inline(always)]
 #[tactic(auto, unfolding(crate::specs::Kinds::first_days))]
-fn first_days(pair: usize) -> u16
+const fn first_days(pair: usize) -> u16
     ensures value { result ≡ first_days_of pair }
     ensures bound { result ≤ 366 }
 {
@@ -62,71 +64,84 @@ fn first_days(pair: usize) -> u16
 }
 
 impl YearTable {
-    /// The seconds from 00:00 UTC of January 1st of the first year of a pair kind to the instant of the second.
-    fn next_entry(&self, pair: usize) -> i64
+    /// The seconds from 00:00 UTC of January 1st of the first year of a pair kind to the instant of
+    /// the second.
+    const fn next_entry(&self, pair: usize) -> i64
         requires { pair < 21 }
         ensures { result ≡ next_entry self.now.0 pair }
     {
         let days = first_days(pair);
-        self.entry(second_kind(pair)) + SECONDS_PER_DAY * i64::from(days)
+        self.entry(second_kind(pair)) + SECONDS_PER_DAY * days as i64
     }
 
     /// Whether the instant comes before the other one in some year.
-    pub(super) fn comes_first(&self, other: &YearTable) -> bool
-        ensures { MatchBool result (ComesFirst self.now.0 other.now.0) (¬ ComesFirst self.now.0 other.now.0) }
+    pub(super) const fn comes_first(&self, other: &YearTable) -> bool
+        ensures { MatchBool result (ComesFirst self.now.0 other.now.0)
+            (¬ ComesFirst self.now.0 other.now.0) }
     {
-        for kind in 0..KINDS {
+        let mut kind = 0;
+        while kind < KINDS {
             if self.entry(kind) < other.entry(kind) {
                 return true;
             }
+            kind += 1;
         }
         false
     }
 
     /// Whether the instant of some year comes before the other one of the next year.
-    pub(super) fn comes_before_next(&self, other: &YearTable) -> bool
-        ensures { MatchBool result (ComesBeforeNext self.now.0 other.now.0) (¬ ComesBeforeNext self.now.0 other.now.0) }
+    pub(super) const fn comes_before_next(&self, other: &YearTable) -> bool
+        ensures { MatchBool result (ComesBeforeNext self.now.0 other.now.0)
+            (¬ ComesBeforeNext self.now.0 other.now.0) }
     {
-        for pair in 0..PAIR_KINDS {
+        let mut pair = 0;
+        while pair < PAIR_KINDS {
             if self.entry(first_kind(pair)) < other.next_entry(pair) {
                 return true;
             }
+            pair += 1;
         }
         false
     }
 
     /// Whether the instant of some year comes after the other one of the next year.
-    fn comes_after_next(&self, other: &YearTable) -> bool
-        ensures { MatchBool result (ComesAfterNext self.now.0 other.now.0) (¬ ComesAfterNext self.now.0 other.now.0) }
+    const fn comes_after_next(&self, other: &YearTable) -> bool
+        ensures { MatchBool result (ComesAfterNext self.now.0 other.now.0)
+            (¬ ComesAfterNext self.now.0 other.now.0) }
     {
-        for pair in 0..PAIR_KINDS {
+        let mut pair = 0;
+        while pair < PAIR_KINDS {
             if other.next_entry(pair) < self.entry(first_kind(pair)) {
                 return true;
             }
+            pair += 1;
         }
         false
     }
 
     /// Whether the instant and the other one of the next year change their order.
-    fn changes_across_years(&self, other: &YearTable) -> bool
-        ensures { MatchBool result (ChangesAcrossYears self.now.0 other.now.0) (¬ ChangesAcrossYears self.now.0 other.now.0) }
+    const fn changes_across_years(&self, other: &YearTable) -> bool
+        ensures { MatchBool result (ChangesAcrossYears self.now.0 other.now.0)
+            (¬ ChangesAcrossYears self.now.0 other.now.0) }
     {
         self.comes_before_next(other) && self.comes_after_next(other)
     }
 
-    /// Whether ends come before starts (`self` is the table of starts), if the bounds of both tables show that their order never changes; `None` if
-    /// they do not show it.
-    fn order_of_bounds(&self, ends: &YearTable) -> Option<bool>
+    /// Whether ends come before starts (`self` is the table of starts), if the bounds of both
+    /// tables show that their order never changes; `None` if they do not show it.
+    const fn order_of_bounds(&self, ends: &YearTable) -> Option<bool>
         ensures { IfSome result (λ first. (¬ ChangesOrder self.now.0 ends.now.0)
-            × MatchBool first (ComesFirst ends.now.0 self.now.0) (¬ ComesFirst ends.now.0 self.now.0)) }
+            × MatchBool first (ComesFirst ends.now.0 self.now.0)
+            (¬ ComesFirst ends.now.0 self.now.0)) }
     {
         let (first_start, last_start) = self.bounds();
         let (first_end, last_end) = ends.bounds();
-        // The bounds show an order only if no start comes after the next year's end, and no end after the next year's start.
-        if i64::from(last_start) > i64::from(first_end) + SECONDS_PER_NORMAL_YEAR {
+        // The bounds show an order only if no start comes after the next year's end, and no end
+        // after the next year's start.
+        if last_start as i64 > first_end as i64 + SECONDS_PER_NORMAL_YEAR {
             return None;
         }
-        if i64::from(last_end) > i64::from(first_start) + SECONDS_PER_NORMAL_YEAR {
+        if last_end as i64 > first_start as i64 + SECONDS_PER_NORMAL_YEAR {
             return None;
         }
         if last_start <= first_end {
@@ -138,10 +153,12 @@ impl YearTable {
         None
     }
 
-    /// Whether the end of some year comes before its start. `None` if starts, of which this is the table, and ends change their order.
-    pub(super) fn order(&self, ends: &YearTable) -> Option<bool>
+    /// Whether the end of some year comes before its start. `None` if starts, of which this is the
+    /// table, and ends change their order.
+    pub(super) const fn order(&self, ends: &YearTable) -> Option<bool>
         ensures some { IfSome result (λ first. (¬ ChangesOrder self.now.0 ends.now.0)
-            × MatchBool first (ComesFirst ends.now.0 self.now.0) (¬ ComesFirst ends.now.0 self.now.0)) }
+            × MatchBool first (ComesFirst ends.now.0 self.now.0)
+            (¬ ComesFirst ends.now.0 self.now.0)) }
         ensures none { IfNone result (ChangesOrder self.now.0 ends.now.0) }
     {
         if let Some(first) = self.order_of_bounds(ends) {
@@ -153,10 +170,12 @@ impl YearTable {
         Some(ends.comes_first(self))
     }
 
-    /// Whether starts, of which this is the table, and ends change their order at some distance in years. Only the distances 0, 1 and -1 need a look:
-    /// a start or an end lies less than ten days outside its year, so from two years on the order never changes.
-    fn changes_order(&self, ends: &YearTable) -> bool
-        ensures { MatchBool result (ChangesOrder self.now.0 ends.now.0) (¬ ChangesOrder self.now.0 ends.now.0) }
+    /// Whether starts, of which this is the table, and ends change their order at some distance in
+    /// years. Only the distances 0, 1 and -1 need a look: a start or an end lies less than ten days
+    /// outside its year, so from two years on the order never changes.
+    const fn changes_order(&self, ends: &YearTable) -> bool
+        ensures { MatchBool result (ChangesOrder self.now.0 ends.now.0)
+            (¬ ChangesOrder self.now.0 ends.now.0) }
     {
         if self.comes_first(ends) && ends.comes_first(self) {
             return true;
@@ -168,36 +187,52 @@ impl YearTable {
     }
 
     /// A year in which the instant comes before the other one of the year that is at the distance.
-    fn year_before(&self, other: &YearTable, distance: i32) -> Option<i32>
+    const fn year_before(&self, other: &YearTable, distance: i32) -> Option<i32>
         requires { IsNear distance }
-        ensures some { IfSome result (λ y. instant_in self.now.0 y <ℤ instant_in other.now.0 (y +ℤ distance)) }
+        ensures some { IfSome result (λ y. instant_in self.now.0 y <ℤ instant_in other.now.0
+            (y +ℤ distance)) }
         ensures bound { IfSome result (λ y. (pos 1972 ≤ℤ y) × (y ≤ℤ pos 2000)) }
-        ensures none { IfNone result ((y : ℤ) → instant_in other.now.0 (y +ℤ distance) ≤ℤ instant_in self.now.0 y) }
+        ensures none { IfNone result ((y : ℤ) → instant_in other.now.0 (y +ℤ distance)
+            ≤ℤ instant_in self.now.0 y) }
     {
-        for index in 0..MODEL_YEARS {
-            let year = FIRST_MODEL_YEAR + i32::from(index);
+        let mut index = 0;
+        while index < MODEL_YEARS {
+            let year = FIRST_MODEL_YEAR + index as i32;
             if self.in_year(year) < other.in_year(year + distance) {
                 return Some(year);
             }
+            index += 1;
         }
         None
     }
 
-    /// Two years of different order at a distance: the start, of which this is the table, is later in the first and earlier in the second.
-    fn conflict_at(&self, ends: &YearTable, distance: i32) -> Option<(i32, i32, i32)>
+    /// Two years of different order at a distance: the start, of which this is the table, is later
+    /// in the first and earlier in the second.
+    const fn conflict_at(&self, ends: &YearTable, distance: i32) -> Option<(i32, i32, i32)>
         requires { IsNear distance }
-        ensures some { IfSome result (λ c. IsConflict (instant_in self.now.0) (instant_in ends.now.0) c.0 c.1 c.2) }
-        ensures none { IfNone result ((x y : ℤ) → ¬ IsConflict (instant_in self.now.0) (instant_in ends.now.0) x y distance) }
+        ensures some { IfSome result (λ c. IsConflict (instant_in self.now.0)
+            (instant_in ends.now.0) c.0 c.1
+            c.2) }
+        ensures none { IfNone result ((x y : ℤ) → ¬ IsConflict (instant_in self.now.0)
+            (instant_in ends.now.0) x y distance) }
     {
-        let end_year = ends.year_before(self, -distance)?;
-        let earlier = self.year_before(ends, distance)?;
+        let Some(end_year) = ends.year_before(self, -distance) else {
+            return None;
+        };
+        let Some(earlier) = self.year_before(ends, distance) else {
+            return None;
+        };
         Some((end_year - distance, earlier, distance))
     }
 
-    /// Two years and a distance at which starts, of which this is the table, and ends change their order.
-    pub(super) fn conflict(&self, ends: &YearTable) -> Option<(i32, i32, i32)>
-        ensures some { IfSome result (λ c. IsConflict (instant_in self.now.0) (instant_in ends.now.0) c.0 c.1 c.2) }
-        ensures none { IfNone result ((k : ℤ) → IsNear k → (x y : ℤ) → ¬ IsConflict (instant_in self.now.0) (instant_in ends.now.0) x y k) }
+    /// Two years and a distance at which starts, of which this is the table, and ends change their
+    /// order.
+    pub(super) const fn conflict(&self, ends: &YearTable) -> Option<(i32, i32, i32)>
+        ensures some { IfSome result (λ c. IsConflict (instant_in self.now.0)
+            (instant_in ends.now.0) c.0 c.1
+            c.2) }
+        ensures none { IfNone result ((k : ℤ) → IsNear k → (x y : ℤ)
+            → ¬ IsConflict (instant_in self.now.0) (instant_in ends.now.0) x y k) }
     {
         if let Some(found) = self.conflict_at(ends, 0) {
             return Some(found);

@@ -35,7 +35,12 @@ impl Model for LocalTimeType {
 
     ghost invariant = { IsKeptType };
 
-    ghost inverse = { λ t. record { ut_offset = t.ut_offset; is_dst = t.is_dst; time_zone_designation = kept t.designation } };
+    ghost inverse = { λ t. record {
+      ut_offset = t.ut_offset;
+      is_dst = t.is_dst;
+      time_zone_designation =
+          kept t.designation;
+    } };
 
     ghost inverse_ok = { λ t k. kept_shown t k };
 }
@@ -46,7 +51,8 @@ impl PartialEq for LocalTimeType {
 
     ghost eq = { same_type };
 
-    ghost laws = { partial_equiv_from_equiv (IsEquivalence-from_equality same_type Decides-same_type) };
+    ghost laws = { partial_equiv_from_equiv
+        (IsEquivalence-from_equality same_type Decides-same_type) };
 
     #[inline(always)]
     fn eq(&self, other: &LocalTimeType) -> bool {
@@ -75,10 +81,10 @@ static NAME_BITS: [u32; 8] = [0, 0x03ff_2800, 0x07ff_fffe, 0x07ff_fffe, 0, 0, 0,
 
 /// Whether a name may have the byte.
 #[inline(always)]
-fn is_designation_byte(byte: u8) -> bool
+const fn is_designation_byte(byte: u8) -> bool
     ensures { IsTrue result ↔ IsDesignationByte byte }
 {
-    NAME_BITS[usize::from(byte / 32)] >> (byte % 32) & 1 == 1
+    NAME_BITS[(byte / 32) as usize] >> (byte % 32) & 1 == 1
 }
 
 impl Designation {
@@ -89,7 +95,7 @@ impl Designation {
 
     /// No name.
     #[inline(always)]
-    fn none() -> Designation
+    const fn none() -> Designation
         ensures { result ≡ kept None }
     {
         Designation {
@@ -100,30 +106,35 @@ impl Designation {
 
     /// Checks and stores a name.
     #[inline(always)]
-    fn new(name: &[u8]) -> Result<Designation, LocalTimeTypeError>
+    const fn new(name: &[u8]) -> Result<Designation, LocalTimeTypeError>
         ensures kept { IfOk result (λ d. IsKept d × (name_of d ≡ name.now) × (1 ≤ d.len)) }
-        ensures err { IfErr result (λ e. ((e ≡ faults.InvalidTimeZoneDesignationLength) × ¬ IsDesignationLength name.now)
-            ⊎ ((e ≡ faults.InvalidTimeZoneDesignationChar) × IsDesignationLength name.now × ¬ All IsDesignationByte name.now)) }
+        ensures err { IfErr result (λ e. ((e ≡ faults.InvalidTimeZoneDesignationLength)
+            × ¬ IsDesignationLength name.now)
+            ⊎ ((e ≡ faults.InvalidTimeZoneDesignationChar) × IsDesignationLength name.now
+            × ¬ All IsDesignationByte name.now)) }
     {
-        if name.is_empty() || name.len() > 7 {
+        let len = name.len();
+        if len < 1 || len > 7 {
             return Err(LocalTimeTypeError::InvalidTimeZoneDesignationLength);
         }
         let mut bytes = [0; 7];
-        for index in 0..name.len() {
+        let mut index = 0;
+        while index < len {
             if !is_designation_byte(name[index]) {
                 return Err(LocalTimeTypeError::InvalidTimeZoneDesignationChar);
             }
             bytes[index] = name[index];
+            index += 1;
         }
         Ok(Designation {
             bytes,
-            len: name.len() as u8,
+            len: len as u8,
         })
     }
 
     /// The bytes and the length, as one number.
     #[inline(always)]
-    fn word(&self) -> u64
+    const fn word(&self) -> u64
         ensures { result ≡ word_of self.now }
     {
         let [b0, b1, b2, b3, b4, b5, b6] = self.bytes;
@@ -135,7 +146,7 @@ impl Designation {
         requires { IsKept self.now }
         ensures { result.now ≡ name_of self.now }
     {
-        unsafe { str::from_utf8_unchecked(&self.bytes[..usize::from(self.len)]) }
+        unsafe { str::from_utf8_unchecked(self.bytes.split_at(self.len as usize).0) }
     }
 }
 
@@ -146,7 +157,8 @@ impl LocalTimeType {
     ghost use Rattle.std.specs.Prelude.{pos, IfSome};
     ghost use Rattle.tz_base.specs.declared.error.timezone.LocalTimeTypeError.TheVariants as faults;
 
-    /// The type with this offset in seconds, this daylight flag and this name of 1 to 7 bytes of `0-9A-Za-z+-`. (RFC 8536, section 3.2)
+    /// The type with this offset in seconds, this daylight flag and this name of 1 to 7 bytes of
+    /// `0-9A-Za-z+-`. (RFC 8536, section 3.2)
     ///
     /// Central European summer time, two hours ahead of UTC:
     ///
@@ -161,22 +173,29 @@ impl LocalTimeType {
     /// The first of these:
     ///
     /// - [`LocalTimeTypeError::InvalidUtcOffset`] if the offset is `i32::MIN`;
-    /// - [`LocalTimeTypeError::InvalidTimeZoneDesignationLength`] if the name does not have 1 to 7 bytes;
+    /// - [`LocalTimeTypeError::InvalidTimeZoneDesignationLength`] if the name does not have 1 to 7
+    ///   bytes;
     /// - [`LocalTimeTypeError::InvalidTimeZoneDesignationChar`] if it has any other byte.
-    pub fn new(
+    pub const fn new(
         ut_offset: i32,
         is_dst: bool,
         time_zone_designation: Option<&[u8]>,
     ) -> Result<Self, LocalTimeTypeError>
-        ensures value { IfOk result (λ t. t ≡ type_of ut_offset is_dst (option_copied time_zone_designation.entry)) }
-        ensures ok { OnOk result (IsLocalTimeType (type_of ut_offset is_dst (option_copied time_zone_designation.entry))) }
-        ensures err { IfErr result (IsFirstTypeFault (type_of ut_offset is_dst (option_copied time_zone_designation.entry))) }
+        ensures value { IfOk result (λ t. t ≡ type_of ut_offset is_dst
+            (option_copied time_zone_designation.entry)) }
+        ensures ok { OnOk result (IsLocalTimeType (type_of ut_offset is_dst
+            (option_copied time_zone_designation.entry))) }
+        ensures err { IfErr result (IsFirstTypeFault
+            (type_of ut_offset is_dst (option_copied time_zone_designation.entry))) }
     {
         if ut_offset == i32::MIN {
             return Err(LocalTimeTypeError::InvalidUtcOffset);
         }
         let time_zone_designation = match time_zone_designation {
-            Some(name) => Designation::new(name)?,
+            Some(name) => match Designation::new(name) {
+                Ok(designation) => designation,
+                Err(error) => return Err(error),
+            },
             None => Designation::none(),
         };
         Ok(LocalTimeType {
@@ -187,7 +206,7 @@ impl LocalTimeType {
     }
 
     /// The type of UTC, without a name.
-    pub fn utc() -> Self
+    pub const fn utc() -> Self
         ensures { result ≡ plain_type (pos 0) }
     {
         LocalTimeType {
@@ -202,7 +221,7 @@ impl LocalTimeType {
     /// # Errors
     ///
     /// [`LocalTimeTypeError::InvalidUtcOffset`] if the offset is `i32::MIN`.
-    pub fn with_ut_offset(ut_offset: i32) -> Result<Self, LocalTimeTypeError>
+    pub const fn with_ut_offset(ut_offset: i32) -> Result<Self, LocalTimeTypeError>
         ensures value { IfOk result (λ t. t ≡ plain_type ut_offset) }
         ensures ok { OnOk result (IsOffset ut_offset) }
         ensures err { IfErr result (λ e. (e ≡ faults.InvalidUtcOffset) × ¬ IsOffset ut_offset) }
@@ -211,7 +230,7 @@ impl LocalTimeType {
     }
 
     /// Seconds that are added to UTC, never `i32::MIN`.
-    pub fn ut_offset(&self) -> i32
+    pub const fn ut_offset(&self) -> i32
         ensures value { result ≡ self.now.ut_offset }
         ensures range { IsOffset result }
     {
@@ -219,7 +238,7 @@ impl LocalTimeType {
     }
 
     /// Whether this is daylight saving time.
-    pub fn is_dst(&self) -> bool
+    pub const fn is_dst(&self) -> bool
         ensures { result ≡ self.now.is_dst }
     {
         self.is_dst
@@ -236,7 +255,7 @@ impl LocalTimeType {
     /// Whether the other type has the same offset, daylight flag and name. This is what `==`
     /// returns, in a form that Rust can compute in a constant.
     #[inline(always)]
-    pub fn is_same(&self, other: &LocalTimeType) -> bool
+    pub const fn is_same(&self, other: &LocalTimeType) -> bool
         ensures { result ≡ same_type self.now other.now }
     {
         // The words compare the eight bytes of each name at once.

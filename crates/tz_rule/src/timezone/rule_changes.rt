@@ -1,8 +1,10 @@
 //! The changes of a rule's type: the first one after an instant, and the last one up to it.
 //!
-//! Mostly that is the start or the end of daylight saving time next to the instant, which the tables' entries of its likely year, or of that year and
-//! one neighbour, determine. Otherwise, as near some New Years, if a start and an end coincide, or at the ends of the rule's years, a walk goes on
-//! from segment to segment. A rule without a change is known by its types and tables, and is not walked over.
+//! Mostly that is the start or the end of daylight saving time next to the instant, which the
+//! tables' entries of its likely year, or of that year and one neighbour, determine. Otherwise, as
+//! near some New Years, if a start and an end coincide, or at the ends of the rule's years, a walk
+//! goes on from segment to segment. A rule without a change is known by its types and tables, and
+//! is not walked over.
 
 ghost use Rattle.std.specs.Prelude.{◌≡◌, ◌≢◌, not, ℤ, pos, negsuc, ◌+ℤ◌, ◌-ℤ◌, ◌≤ℤ◌, ◌<ℤ◌, IfSome, MatchBool, MatchOption};
 ghost use Rattle.std.specs.Bool.{OnTrue};
@@ -18,9 +20,9 @@ ghost use Rattle.tz_rule.specs.declared.timezone.transition_rule.TransitionRule.
 ghost use Rattle.tz_rule.specs.declared.timezone.transition_rule.TransitionRule.TheVariants.{Alternate};
 
 use super::LocalTimeType;
-use super::alternate_data::AlternateData;
-use super::rule_ref::RuleRef;
-use super::rule_years::likely_year;
+use super::alternate_time::AlternateData;
+use super::transition_rule::RuleRef;
+use super::year_table::likely_year;
 
 /// A change of a rule, from one type to another.
 #[derive(Clone, Copy)]
@@ -33,17 +35,20 @@ pub struct RuleChange<'a> {
     pub after: &'a LocalTimeType,
 }
 
-/// A start or an end of daylight saving time at which the rule has the other type than at the instant before.
+/// A start or an end of daylight saving time at which the rule has the other type than at the
+/// instant before.
 #[derive(Clone, Copy)]
 struct Switch {
     unix_time: i64,
     is_start: bool,
 }
 
-/// The switch at this instant. `earlier` and `later` are it and its neighbour; `None` if both come at one instant.
+/// The switch at this instant. `earlier` and `later` are it and its neighbour; `None` if both come
+/// at one instant.
 #[inline(always)]
-fn switch_between(unix_time: i64, is_start: bool, earlier: i64, later: i64) -> Option<Switch>
-    ensures { IfSome result (λ switch. (switch.unix_time ≡ unix_time) × (switch.is_start ≡ is_start) × (earlier <ℤ later)) }
+const fn switch_between(unix_time: i64, is_start: bool, earlier: i64, later: i64) -> Option<Switch>
+    ensures { IfSome result (λ switch. (switch.unix_time ≡ unix_time) × (switch.is_start ≡ is_start)
+        × (earlier <ℤ later)) }
 {
     if earlier < later {
         return Some(Switch {
@@ -56,18 +61,22 @@ fn switch_between(unix_time: i64, is_start: bool, earlier: i64, later: i64) -> O
 
 /// The change at an instant, by the types at the instant before and at it.
 #[inline(always)]
-fn change_by_types<'a>(
+const fn change_by_types<'a>(
     unix_time: i64,
     before: Option<&'a LocalTimeType>,
     after: Option<&'a LocalTimeType>,
 ) -> Option<RuleChange<'a>>
     ensures { (rule : TransitionRule) → negsuc 9223372036854775807 <ℤ unix_time
-        → MatchOption before.entry ((t : LocalTimeType) → ¬ IsRuleType rule (unix_time -ℤ pos 1) t) (λ t. IsRuleType rule (unix_time -ℤ pos 1) t.now)
-        → MatchOption after.entry ((t : LocalTimeType) → ¬ IsRuleType rule unix_time t) (λ t. IsRuleType rule unix_time t.now)
-        → MatchOption result ((c : TypeChange) → c.unix_time ≡ unix_time → ¬ IsTypeChange rule c) (λ c. ((type_change_of c).unix_time ≡ unix_time) × IsTypeChange rule (type_change_of c)) }
+        → MatchOption before.entry ((t : LocalTimeType) → ¬ IsRuleType rule (unix_time -ℤ pos 1) t)
+        (λ t. IsRuleType rule (unix_time -ℤ pos 1) t.now)
+        → MatchOption after.entry ((t : LocalTimeType) → ¬ IsRuleType rule unix_time t)
+        (λ t. IsRuleType rule unix_time t.now)
+        → MatchOption result ((c : TypeChange) → c.unix_time ≡ unix_time → ¬ IsTypeChange rule c)
+        (λ c. ((type_change_of c).unix_time ≡ unix_time) × IsTypeChange rule (type_change_of c)) }
 {
-    let before = before?;
-    let after = after?;
+    let (Some(before), Some(after)) = (before, after) else {
+        return None;
+    };
     if before.is_same(after) {
         return None;
     }
@@ -79,23 +88,28 @@ fn change_by_types<'a>(
 }
 
 impl AlternateData {
-    /// The last start or end up to an instant near the moved year, and the next one after it. Either is `None` if it meets the other one of its year.
-    /// `end_is_first` is as in `segment_by_order`.
+    /// The last start or end up to an instant near the moved year, and the next one after it.
+    /// Either is `None` if it meets the other one of its year. `end_is_first` is as in
+    /// `segment_by_order`.
     ///
-    /// The second one of a year never meets the first one of the next year, since both are far inside their years.
+    /// The second one of a year never meets the first one of the next year, since both are far
+    /// inside their years.
     #[inline(always)]
-    fn switches_by_order(
+    const fn switches_by_order(
         &self,
         end_is_first: bool,
         unix_time: i64,
         moved_year: u64,
     ) -> (Option<Switch>, Option<Switch>)
-        requires order { MatchBool end_is_first (EndsNextYear (start_of self.now) (end_of self.now)) (¬ EndsNextYear (start_of self.now) (end_of self.now)) }
+        requires order { MatchBool end_is_first (EndsNextYear (start_of self.now) (end_of self.now))
+            (¬ EndsNextYear (start_of self.now) (end_of self.now)) }
         requires year { IsTriedYear (moved_back moved_year) }
         requires inner { HasInnerSwitches self.now }
         requires likely { IsLikelyYear unix_time (moved_back moved_year) }
-        ensures last { IfSome result.0 (λ switch. IsSwitchUpTo self.now unix_time switch.unix_time switch.is_start) }
-        ensures next { IfSome result.1 (λ switch. IsSwitchAfter self.now unix_time switch.unix_time switch.is_start) }
+        ensures last { IfSome result.0 (λ switch. IsSwitchUpTo self.now unix_time switch.unix_time
+            switch.is_start) }
+        ensures next { IfSome result.1 (λ switch. IsSwitchAfter self.now unix_time switch.unix_time
+            switch.is_start) }
     {
         self.parts_are_sound();
         let first = self.switch_in_moved(end_is_first, moved_year);
@@ -127,17 +141,22 @@ impl AlternateData {
         )
     }
 
-    /// The last switch up to an instant and the next one after it, if the types differ and the likely year determines them.
+    /// The last switch up to an instant and the next one after it, if the types differ and the
+    /// likely year determines them.
     #[inline(always)]
-    fn switches_around(&self, unix_time: i64) -> Option<(Option<Switch>, Option<Switch>)>
+    const fn switches_around(&self, unix_time: i64) -> Option<(Option<Switch>, Option<Switch>)>
         ensures differ { IfSome result (λ _. self.now.std ≢ self.now.dst) }
-        ensures last { IfSome result (λ around. IfSome around.0 (λ switch. IsSwitchUpTo self.now unix_time switch.unix_time switch.is_start)) }
-        ensures next { IfSome result (λ around. IfSome around.1 (λ switch. IsSwitchAfter self.now unix_time switch.unix_time switch.is_start)) }
+        ensures last { IfSome result (λ around. IfSome around.0
+            (λ switch. IsSwitchUpTo self.now unix_time switch.unix_time switch.is_start)) }
+        ensures next { IfSome result (λ around. IfSome around.1
+            (λ switch. IsSwitchAfter self.now unix_time switch.unix_time switch.is_start)) }
     {
         if !self.has_inner_switches() || self.std().is_same(self.dst()) {
             return None;
         }
-        let moved_year = likely_year(unix_time)?;
+        let Some(moved_year) = likely_year(unix_time) else {
+            return None;
+        };
         if self.ends_next_year() {
             return Some(self.switches_by_order(true, unix_time, moved_year));
         }
@@ -146,7 +165,7 @@ impl AlternateData {
 
     /// The change at a switch.
     #[inline(always)]
-    fn change_at(&self, switch: Switch) -> RuleChange<'_>
+    const fn change_at(&self, switch: Switch) -> RuleChange<'_>
         ensures time { result.unix_time ≡ switch.unix_time }
         ensures before { result.before.now ≡ type_by self.now (not switch.is_start) }
         ensures after { result.after.now ≡ type_by self.now switch.is_start }
@@ -158,9 +177,9 @@ impl AlternateData {
         }
     }
 
-    /// Whether the rule is known to have no change: its types are equal, or daylight saving time never begins before it ends, or never ends before it
-    /// begins again.
-    fn has_one_type(&self) -> bool
+    /// Whether the rule is known to have no change: its types are equal, or daylight saving time
+    /// never begins before it ends, or never ends before it begins again.
+    const fn has_one_type(&self) -> bool
         ensures { OnTrue result (HasOneType (Alternate self.now)) }
     {
         self.parts_are_sound();
@@ -176,8 +195,9 @@ impl AlternateData {
 
     /// The first change after an instant, from segment to segment.
     #[inline(never)]
-    fn outer_change_after(&self, unix_time: i64) -> Option<RuleChange<'_>>
-        ensures { MatchOption result (HasNoChangeAfter (Alternate self.now) unix_time) (λ c. IsChangeAfter (Alternate self.now) unix_time (type_change_of c)) }
+    const fn outer_change_after(&self, unix_time: i64) -> Option<RuleChange<'_>>
+        ensures { MatchOption result (HasNoChangeAfter (Alternate self.now) unix_time)
+            (λ c. IsChangeAfter (Alternate self.now) unix_time (type_change_of c)) }
     {
         if self.has_one_type() {
             return None;
@@ -200,8 +220,9 @@ impl AlternateData {
 
     /// The last change up to an instant, from segment to segment.
     #[inline(never)]
-    fn outer_change_up_to(&self, unix_time: i64) -> Option<RuleChange<'_>>
-        ensures { MatchOption result (HasNoChangeUpTo (Alternate self.now) unix_time) (λ c. IsChangeUpTo (Alternate self.now) unix_time (type_change_of c)) }
+    const fn outer_change_up_to(&self, unix_time: i64) -> Option<RuleChange<'_>>
+        ensures { MatchOption result (HasNoChangeUpTo (Alternate self.now) unix_time)
+            (λ c. IsChangeUpTo (Alternate self.now) unix_time (type_change_of c)) }
     {
         if self.has_one_type() {
             return None;
@@ -222,10 +243,12 @@ impl AlternateData {
         None
     }
 
-    /// The first change after an instant. Not inlined, so that walks over a zone's transitions stay small.
+    /// The first change after an instant. Not inlined, so that walks over a zone's transitions stay
+    /// small.
     #[inline(never)]
-    fn change_after(&self, unix_time: i64) -> Option<RuleChange<'_>>
-        ensures { MatchOption result (HasNoChangeAfter (Alternate self.now) unix_time) (λ c. IsChangeAfter (Alternate self.now) unix_time (type_change_of c)) }
+    const fn change_after(&self, unix_time: i64) -> Option<RuleChange<'_>>
+        ensures { MatchOption result (HasNoChangeAfter (Alternate self.now) unix_time)
+            (λ c. IsChangeAfter (Alternate self.now) unix_time (type_change_of c)) }
     {
         match self.switches_around(unix_time) {
             Some((_, Some(switch))) => Some(self.change_at(switch)),
@@ -235,8 +258,9 @@ impl AlternateData {
 
     /// The last change up to an instant. Not inlined either.
     #[inline(never)]
-    fn change_up_to(&self, unix_time: i64) -> Option<RuleChange<'_>>
-        ensures { MatchOption result (HasNoChangeUpTo (Alternate self.now) unix_time) (λ c. IsChangeUpTo (Alternate self.now) unix_time (type_change_of c)) }
+    const fn change_up_to(&self, unix_time: i64) -> Option<RuleChange<'_>>
+        ensures { MatchOption result (HasNoChangeUpTo (Alternate self.now) unix_time)
+            (λ c. IsChangeUpTo (Alternate self.now) unix_time (type_change_of c)) }
     {
         match self.switches_around(unix_time) {
             Some((Some(switch), _)) => Some(self.change_at(switch)),
@@ -248,8 +272,9 @@ impl AlternateData {
 /// The first change of a rule after an instant.
 #[tactic(auto, using(crate::proofs::RuleWalks::none_of_fixed))]
 #[inline(always)]
-pub fn change_after<'a>(rule: RuleRef<'a>, unix_time: i64) -> Option<RuleChange<'a>>
-    ensures { MatchOption result (HasNoChangeAfter (rule_seen rule.entry) unix_time) (λ c. IsChangeAfter (rule_seen rule.entry) unix_time (type_change_of c)) }
+pub const fn change_after<'a>(rule: RuleRef<'a>, unix_time: i64) -> Option<RuleChange<'a>>
+    ensures { MatchOption result (HasNoChangeAfter (rule_seen rule.entry) unix_time)
+        (λ c. IsChangeAfter (rule_seen rule.entry) unix_time (type_change_of c)) }
 {
     match rule {
         RuleRef::Fixed(_) => None,
@@ -260,8 +285,9 @@ pub fn change_after<'a>(rule: RuleRef<'a>, unix_time: i64) -> Option<RuleChange<
 /// The last change of a rule up to an instant.
 #[tactic(auto, using(crate::proofs::RuleWalks::none_of_fixed))]
 #[inline(always)]
-pub fn change_up_to<'a>(rule: RuleRef<'a>, unix_time: i64) -> Option<RuleChange<'a>>
-    ensures { MatchOption result (HasNoChangeUpTo (rule_seen rule.entry) unix_time) (λ c. IsChangeUpTo (rule_seen rule.entry) unix_time (type_change_of c)) }
+pub const fn change_up_to<'a>(rule: RuleRef<'a>, unix_time: i64) -> Option<RuleChange<'a>>
+    ensures { MatchOption result (HasNoChangeUpTo (rule_seen rule.entry) unix_time)
+        (λ c. IsChangeUpTo (rule_seen rule.entry) unix_time (type_change_of c)) }
 {
     match rule {
         RuleRef::Fixed(_) => None,

@@ -1,38 +1,55 @@
 //! The days of a year that a rule can name.
 
-ghost use Rattle.std.specs.Prelude.{◌≡◌, ℕ, ◌+◌, ◌<◌, ◌≤◌, get_or, IfOk, IfErr, OnOk};
 ghost use Rattle.tz_base.specs.declared.error.timezone.TransitionRuleError.TheVariants as faults;
+ghost use Rattle.std.specs.Prelude.{◌≡◌, ℕ, ◌+◌, ◌-◌, ◌*◌, ◌<◌, ◌≤◌, min, get_or, IfOk, IfErr, OnOk};
 ghost use Rattle.tz_rule.specs.JulianDay.{IsJulianDay, IsZeroBasedDay};
 ghost use Rattle.tz_rule.specs.MonthWeek.{MonthWeek, IsMonthWeek, IsFirstMonthWeekFault, IsRuleWeek, month_week};
-ghost use Rattle.tz_rule.specs.Places.{julian_place, nth_place as nth_place_of, place_in_year};
+ghost use Rattle.tz_rule.specs.YearDays.{julian_year_day, nth_week_day as nth_week_day_of, year_day_of};
+ghost use Rattle.tz_rule.specs.ZeroRule.{zero_day};
 
 use std::marker::Model;
 use tz_base::calendar;
 use tz_base::error::timezone::TransitionRuleError;
 
-/// The day of a month of this length, counted from 0, on which a week day falls for the w-th time, or for week 5 for the last time, if it first falls
-/// on day `first`.
+/// The day of a month of this length, counted from 0, on which a week day falls for the w-th time,
+/// or for week 5 for the last time, if it first falls on day `first`.
 #[inline(always)]
-fn nth_place(first: u8, days: u8, week: u8) -> u8
+const fn nth_week_day(first: u8, days: u8, week: u8) -> u8
     requires first { first < 7 }
     requires days { (28 ≤ days) × (days ≤ 31) }
     requires week { IsRuleWeek week }
-    ensures value { result ≡ nth_place_of first days week }
+    ensures value { result ≡ nth_week_day_of first days week }
     ensures bound { result < days }
 {
-    let place = first + 7 * (week - 1);
-    if place < days { place } else { place - 7 }
+    let day = first + 7 * (week - 1);
+    if day < days { day } else { day - 7 }
 }
 
-/// The place in a year that begins one week day later: a day earlier, or the last of the seven places if it was the first.
-#[inline(always)]
-fn place_before(place: u16, least: u16) -> u16
-    requires place { (least ≤ place) × (place ≤ least + 6) }
-    requires bound { least ≤ 366 }
-    ensures first { place ≡ least → result ≡ least + 6 }
-    ensures other { least < place → result + 1 ≡ place }
+/// The first of the seven days of a month of this length that a week day's w-th one, or for week 5
+/// its last one, may be, counted from 0.
+const fn least_day(days: u8, week: u8) -> u8
+    requires days { (28 ≤ days) × (days ≤ 31) }
+    requires week { IsRuleWeek week }
+    ensures { result ≡ min (7 * (week - 1)) (days - 7) }
 {
-    if place == least { least + 6 } else { place - 1 }
+    let (usual, last) = (7 * (week - 1), days - 7);
+    if last < usual { last } else { usual }
+}
+
+/// The day of a year that begins one week day later: a day earlier, or the last of the seven days
+/// that it may be if it was the first.
+#[inline(always)]
+const fn year_day_before(year_day: u16, least: u16) -> u16
+    requires year_day { (least ≤ year_day) × (year_day ≤ least + 6) }
+    requires bound { least ≤ 366 }
+    ensures first { year_day ≡ least → result ≡ least + 6 }
+    ensures other { least < year_day → result + 1 ≡ year_day }
+{
+    if year_day == least {
+        least + 6
+    } else {
+        year_day - 1
+    }
 }
 
 /// The n-th of a year's days that are not February 29th, from 1 to 365. (POSIX.1-2017, 8.3: `Jn`.)
@@ -58,10 +75,11 @@ impl Julian1WithoutLeap {
     /// # Errors
     ///
     /// [`TransitionRuleError::InvalidRuleDayJulianDay`] for any other number.
-    pub fn new(julian_day_1: u16) -> Result<Self, TransitionRuleError>
+    pub const fn new(julian_day_1: u16) -> Result<Self, TransitionRuleError>
         ensures value { IfOk result (λ d. d ≡ julian_day_1) }
         ensures ok { OnOk result (IsJulianDay julian_day_1) }
-        ensures err { IfErr result (λ e. (e ≡ faults.InvalidRuleDayJulianDay) × ¬ IsJulianDay julian_day_1) }
+        ensures err { IfErr result (λ e. (e ≡ faults.InvalidRuleDayJulianDay)
+            × ¬ IsJulianDay julian_day_1) }
     {
         if julian_day_1 < 1 || julian_day_1 > 365 {
             return Err(TransitionRuleError::InvalidRuleDayJulianDay);
@@ -70,7 +88,7 @@ impl Julian1WithoutLeap {
     }
 
     /// The number of the day.
-    pub fn get(&self) -> u16
+    pub const fn get(&self) -> u16
         ensures value { result ≡ self.now }
         ensures range { IsJulianDay self.now }
     {
@@ -78,9 +96,9 @@ impl Julian1WithoutLeap {
     }
 
     /// How many days after January 1st the day is, in a leap year or another one.
-    #[tactic(auto, unfolding(crate::specs::Places::julian_place))]
-    fn place(&self, leap: bool) -> u16
-        ensures value { result ≡ julian_place leap self.now }
+    #[tactic(auto, unfolding(crate::specs::YearDays::julian_year_day))]
+    const fn year_day(&self, leap: bool) -> u16
+        ensures value { result ≡ julian_year_day leap self.now }
         ensures bound { result ≤ 365 }
         ensures range { IsJulianDay self.now }
     {
@@ -89,7 +107,8 @@ impl Julian1WithoutLeap {
     }
 }
 
-/// The day n days after January 1st, from 0 to 365. In a year that is not leap 365 is the next January 1st. (POSIX.1-2017, 8.3: `n`.)
+/// The day n days after January 1st, from 0 to 365. In a year that is not leap 365 is the next
+/// January 1st. (POSIX.1-2017, 8.3: `n`.)
 #[derive(Clone, Copy, Debug, PartialEq, Eq)]
 pub struct Julian0WithLeap(pub(super) u16);
 
@@ -112,10 +131,11 @@ impl Julian0WithLeap {
     /// # Errors
     ///
     /// [`TransitionRuleError::InvalidRuleDayJulianDay`] for any other number.
-    pub fn new(julian_day_0: u16) -> Result<Self, TransitionRuleError>
+    pub const fn new(julian_day_0: u16) -> Result<Self, TransitionRuleError>
         ensures value { IfOk result (λ d. d ≡ julian_day_0) }
         ensures ok { OnOk result (IsZeroBasedDay julian_day_0) }
-        ensures err { IfErr result (λ e. (e ≡ faults.InvalidRuleDayJulianDay) × ¬ IsZeroBasedDay julian_day_0) }
+        ensures err { IfErr result (λ e. (e ≡ faults.InvalidRuleDayJulianDay)
+            × ¬ IsZeroBasedDay julian_day_0) }
     {
         if julian_day_0 > 365 {
             return Err(TransitionRuleError::InvalidRuleDayJulianDay);
@@ -124,7 +144,7 @@ impl Julian0WithLeap {
     }
 
     /// The number of the day.
-    pub fn get(&self) -> u16
+    pub const fn get(&self) -> u16
         ensures value { result ≡ self.now }
         ensures range { IsZeroBasedDay self.now }
     {
@@ -132,7 +152,8 @@ impl Julian0WithLeap {
     }
 }
 
-/// The first, second, third, fourth or last (5) of a month's days with a given week day. (POSIX.1-2017, 8.3: `Mm.w.d`.)
+/// The first, second, third, fourth or last (5) of a month's days with a given week day.
+/// (POSIX.1-2017, 8.3: `Mm.w.d`.)
 #[derive(Clone, Copy, Debug, PartialEq, Eq)]
 pub struct MonthWeekDay {
     pub(super) month: u8,
@@ -155,9 +176,11 @@ impl Model for MonthWeekDay {
 impl MonthWeekDay {
     ghost use Rattle.tz_rule.specs.declared.timezone.rule_day.RuleDay.TheVariants as TheDays;
 
-    /// The week day of a month: the month from 1 to 12, the week from 1 to 5, where 5 is the last, and the week day from 0 (Sunday) to 6.
+    /// The week day of a month: the month from 1 to 12, the week from 1 to 5, where 5 is the last,
+    /// and the week day from 0 (Sunday) to 6.
     ///
-    /// The second Sunday of March is the day 3, 2, 0. See the example at [`AlternateTime::new`](super::AlternateTime::new).
+    /// The second Sunday of March is the day 3, 2, 0. See the example at
+    /// [`AlternateTime::new`](super::AlternateTime::new).
     ///
     /// # Errors
     ///
@@ -166,7 +189,7 @@ impl MonthWeekDay {
     /// - [`TransitionRuleError::InvalidRuleDayMonth`] if the month is out of range;
     /// - [`TransitionRuleError::InvalidRuleDayWeek`] if the week is;
     /// - [`TransitionRuleError::InvalidRuleDayWeekDay`] if the week day is.
-    pub fn new(month: u8, week: u8, week_day: u8) -> Result<Self, TransitionRuleError>
+    pub const fn new(month: u8, week: u8, week_day: u8) -> Result<Self, TransitionRuleError>
         ensures value { IfOk result (λ d. d ≡ month_week month week week_day) }
         ensures ok { OnOk result (IsMonthWeek (month_week month week week_day)) }
         ensures err { IfErr result (IsFirstMonthWeekFault (month_week month week week_day)) }
@@ -188,7 +211,7 @@ impl MonthWeekDay {
     }
 
     /// The month, from 1 to 12.
-    pub fn month(&self) -> u8
+    pub const fn month(&self) -> u8
         ensures value { result ≡ self.now.month }
         ensures range { IsMonthWeek self.now }
     {
@@ -196,7 +219,7 @@ impl MonthWeekDay {
     }
 
     /// The week of the month, from 1 to 5, where 5 means the last.
-    pub fn week(&self) -> u8
+    pub const fn week(&self) -> u8
         ensures value { result ≡ self.now.week }
         ensures range { IsMonthWeek self.now }
     {
@@ -204,33 +227,37 @@ impl MonthWeekDay {
     }
 
     /// The week day, from Sunday = 0 to 6.
-    pub fn week_day(&self) -> u8
+    pub const fn week_day(&self) -> u8
         ensures value { result ≡ self.now.week_day }
         ensures range { IsMonthWeek self.now }
     {
         self.week_day
     }
 
-    /// How many days after January 1st the day is in leap years or in the others, for each week day of January 1st.
+    /// How many days after January 1st the day is in leap years or in the others, for each week day
+    /// of January 1st.
     ///
-    /// The place is found for a year that begins on a Sunday. If January 1st is one week day later, the day is one day earlier, or the last of its
-    /// seven places if it was the first.
-    fn places(&self, leap: bool) -> [u16; 7]
-        ensures value { (w : ℕ) → w < 7 → get_or result w 0 ≡ place_in_year (TheDays.MonthWeekDay self.now) leap w }
+    /// The day is found for a year that begins on a Sunday. If January 1st is one week day later,
+    /// it is one day earlier, or the last of the seven days that it may be if it was the first.
+    const fn year_days(&self, leap: bool) -> [u16; 7]
+        ensures value { (w : ℕ) → w < 7
+            → get_or result w 0 ≡ year_day_of (TheDays.MonthWeekDay self.now) leap w }
         ensures bound { (w : ℕ) → w < 7 → get_or result w 0 ≤ 365 }
         ensures range { IsMonthWeek self.now }
     {
         let before = calendar::days_before_month(leap, self.month);
         let days = calendar::days_of_month(leap, self.month);
-        let least = before + u16::from((7 * (self.week - 1)).min(days - 7));
+        let least = before + least_day(days, self.week) as u16;
         let first = (self.week_day + 7 - (before % 7) as u8) % 7;
-        let mut place = before + u16::from(nth_place(first, days, self.week));
-        let mut places = [0; 7];
-        for week_day in 0..7 {
-            places[week_day] = place;
-            place = place_before(place, least);
+        let mut year_day = before + nth_week_day(first, days, self.week) as u16;
+        let mut year_days = [0; 7];
+        let mut week_day = 0;
+        while week_day < 7 {
+            year_days[week_day] = year_day;
+            year_day = year_day_before(year_day, least);
+            week_day += 1;
         }
-        places
+        year_days
     }
 }
 
@@ -252,7 +279,8 @@ impl PartialEq for RuleDay {
 
     ghost eq = { same_day };
 
-    ghost laws = { partial_equiv_from_equiv (IsEquivalence-from_equality same_day Decides-same_day) };
+    ghost laws = { partial_equiv_from_equiv
+        (IsEquivalence-from_equality same_day Decides-same_day) };
 
     fn eq(&self, other: &RuleDay) -> bool {
         match (self, other) {
@@ -274,16 +302,110 @@ impl Eq for RuleDay {
 impl RuleDay {
     ghost use Rattle.tz_rule.specs.RuleDays.{IsRuleDay};
 
-    /// How many days after January 1st the day is in leap years or in the others, for each week day of January 1st.
-    pub(super) fn places(&self, leap: bool) -> [u16; 7]
-        ensures value { (w : ℕ) → w < 7 → get_or result w 0 ≡ place_in_year self.now leap w }
+    /// How many days after January 1st the day is in leap years or in the others, for each week day
+    /// of January 1st.
+    pub(super) const fn year_days(&self, leap: bool) -> [u16; 7]
+        ensures value { (w : ℕ) → w < 7 → get_or result w 0 ≡ year_day_of self.now leap w }
         ensures bound { (w : ℕ) → w < 7 → get_or result w 0 ≤ 365 }
         ensures range { IsRuleDay self.now }
     {
         match self {
-            RuleDay::Julian1WithoutLeap(day) => [day.place(leap); 7],
+            RuleDay::Julian1WithoutLeap(day) => [day.year_day(leap); 7],
             RuleDay::Julian0WithLeap(day) => [day.get(); 7],
-            RuleDay::MonthWeekDay(day) => day.places(leap),
+            RuleDay::MonthWeekDay(day) => day.year_days(leap),
+        }
+    }
+}
+
+/// A day of each year as numbers, in C's layout: six bytes, of which those that its kind does not
+/// use are zero.
+#[repr(C)]
+#[derive(Clone, Copy)]
+pub struct DayData {
+    /// The number of a Julian day, from 1, or of a zero-based one.
+    number: u16,
+    /// 0: zero-based (`n`), 1: Julian (`Jn`), 2: a week day of a month (`Mm.w.d`).
+    kind: u8,
+    month: u8,
+    week: u8,
+    week_day: u8,
+}
+
+impl Model for DayData {
+    ghost use Rattle.tz_rule.specs.declared.timezone.rule_day.RuleDay.{RuleDay};
+
+    ghost Value = { RuleDay };
+
+    ghost use Rattle.tz_rule.specs.DayData.{IsDayData, day_of, data_of};
+
+    ghost view = { day_of };
+
+    ghost invariant = { IsDayData };
+
+    ghost inverse = { data_of };
+
+    ghost inverse_ok = { λ d k. k.is_data };
+}
+
+impl DayData {
+    ghost use Rattle.tz_rule.specs.RuleDays.{IsRuleDay};
+
+    /// The numbers of a rule day.
+    #[inline(always)]
+    pub const fn of(day: &RuleDay) -> Self
+        ensures { result ≡ day.now }
+    {
+        match day {
+            RuleDay::Julian0WithLeap(day) => DayData {
+                number: day.get(),
+                kind: 0,
+                month: 0,
+                week: 0,
+                week_day: 0,
+            },
+            RuleDay::Julian1WithoutLeap(day) => DayData {
+                number: day.get(),
+                kind: 1,
+                month: 0,
+                week: 0,
+                week_day: 0,
+            },
+            RuleDay::MonthWeekDay(day) => DayData {
+                number: 0,
+                kind: 2,
+                month: day.month(),
+                week: day.week(),
+                week_day: day.week_day(),
+            },
+        }
+    }
+
+    /// The day whose bytes are all zero: January 1st.
+    pub const fn zeros() -> Self
+        ensures { result ≡ zero_day }
+    {
+        DayData {
+            number: 0,
+            kind: 0,
+            month: 0,
+            week: 0,
+            week_day: 0,
+        }
+    }
+
+    /// The rule day with these numbers.
+    #[inline(always)]
+    pub const fn day(&self) -> RuleDay
+        ensures { result ≡ self.now }
+    {
+        match self.kind {
+            0 => RuleDay::Julian0WithLeap(Julian0WithLeap(self.number)),
+            1 => RuleDay::Julian1WithoutLeap(Julian1WithoutLeap(self.number)),
+            _ => RuleDay::MonthWeekDay(MonthWeekDay {
+                month: self.month,
+                week: self.week,
+                week_day: self.week_day,
+            }),
         }
     }
 }

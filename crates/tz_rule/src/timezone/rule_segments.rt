@@ -1,12 +1,16 @@
-//! The segment of an alternate rule around an instant, from one start or end of daylight saving time up to the next, and the type there.
+//! The segment of an alternate rule around an instant, from one start or end of daylight saving
+//! time up to the next, and the type there.
 //!
-//! The switches (starts and ends) of the likely year, which is the instant's or a neighbour near a New Year, and of its neighbours determine the
-//! segment: always if all lie ten days or more inside their years, and otherwise mostly. If they do not, as near some New Years and more than 1.9
-//! billion years from 1970, the determining year is taken instead: the instant's year in UTC or a neighbour, chosen by the first switches of that
-//! year and the next.
+//! The switches (starts and ends) of the likely year, which is the instant's or a neighbour near a
+//! New Year, and of its neighbours determine the segment: always if all lie ten days or more inside
+//! their years, and otherwise mostly. If they do not, as near some New Years and more than 1.9
+//! billion years from 1970, the determining year is taken instead: the instant's year in UTC or a
+//! neighbour, chosen by the first switches of that year and the next.
 
-ghost use Rattle.std.specs.Prelude.{◌≡◌, ◌≢◌, ◌≤◌, ℤ, pos, negsuc, ◌+ℤ◌, ◌-ℤ◌, ◌≤ℤ◌, ◌<ℤ◌, IfOk, IfErr, IfSome, IfNone, MatchBool, MatchOption};
-ghost use Rattle.tz_rule.specs.Alternate.{AlternateTime, start_of, end_of, switch_of, IsUtcYear, IsRuleYear, IsInRuleYears, IsAlternateType};
+ghost use Rattle.std.specs.Prelude.{◌≡◌, ◌≢◌, ◌≤◌, ℤ, pos, negsuc, ◌+ℤ◌, ◌-ℤ◌, ◌≤ℤ◌, ◌<ℤ◌};
+ghost use Rattle.std.specs.Prelude.{IfSome, IfNone, MatchBool, MatchOption};
+ghost use Rattle.tz_rule.specs.Alternate.{AlternateTime, start_of, end_of, switch_of};
+ghost use Rattle.tz_rule.specs.Alternate.{IsUtcYear, IsRuleYear, IsInRuleYears};
 ghost use Rattle.tz_rule.specs.LocalTimeType.{LocalTimeType};
 ghost use Rattle.tz_rule.specs.Rule.{IsRuleType};
 ghost use Rattle.tz_rule.specs.RuleSegments.{type_by, IsRuleChange, IsRuleSegment, IsSwitchSegment, IsWholeSegment};
@@ -15,10 +19,10 @@ ghost use Rattle.tz_rule.specs.Pairing.{EndsNextYear};
 ghost use Rattle.tz_rule.specs.declared.timezone.transition_rule.TransitionRule.TheVariants.{Alternate};
 
 use super::LocalTimeType;
-use super::alternate_data::AlternateData;
-use super::rule_years::{FIRST_YEAR, LAST_YEAR, likely_year, new_year, rule_year};
+use super::alternate_time::AlternateData;
+use super::year_table::{FIRST_YEAR, LAST_YEAR, likely_year, new_year, rule_year};
 use tz_base::calendar;
-use tz_base::error::TzError;
+use tz_base::order::{greater_i64, lesser_i64};
 
 /// A span of time through which a rule has one type, or none.
 #[derive(Clone, Copy)]
@@ -43,7 +47,7 @@ struct AlternateSegment {
 }
 
 /// The segment around an instant at which rules are undefined.
-fn undefined_segment<'a>(unix_time: i64) -> RuleSegment<'a>
+const fn undefined_segment<'a>(unix_time: i64) -> RuleSegment<'a>
     requires { ¬ IsInRuleYears unix_time }
     ensures { (rule : AlternateTime) → IsRuleSegment (Alternate rule) unix_time result }
 {
@@ -65,27 +69,31 @@ fn undefined_segment<'a>(unix_time: i64) -> RuleSegment<'a>
 impl AlternateData {
     /// The instant at which daylight saving time starts, or ends, in a moved year.
     #[inline(always)]
-    pub(super) fn switch_in_moved(&self, is_end: bool, moved_year: u64) -> i64
+    pub(super) const fn switch_in_moved(&self, is_end: bool, moved_year: u64) -> i64
         requires { (352 ≤ moved_year) × (moved_year ≤ 4294967647) }
         ensures { result ≡ switch_of self.now is_end (moved_back moved_year) }
     {
         self.table(is_end).in_moved_year(moved_year)
     }
 
-    /// The segment that holds an instant, if the moved year and its neighbours determine it; otherwise a segment near by.
+    /// The segment that holds an instant, if the moved year and its neighbours determine it;
+    /// otherwise a segment near by.
     ///
-    /// `end_is_first` is `ends_next_year()`: whether some year's end comes before its start, so that daylight saving time ends in the next year.
+    /// `end_is_first` is `ends_next_year()`: whether some year's end comes before its start, so
+    /// that daylight saving time ends in the next year.
     #[inline(always)]
-    fn segment_by_order(
+    const fn segment_by_order(
         &self,
         end_is_first: bool,
         unix_time: i64,
         moved_year: u64,
     ) -> AlternateSegment
-        requires order { MatchBool end_is_first (EndsNextYear (start_of self.now) (end_of self.now)) (¬ EndsNextYear (start_of self.now) (end_of self.now)) }
+        requires order { MatchBool end_is_first (EndsNextYear (start_of self.now) (end_of self.now))
+            (¬ EndsNextYear (start_of self.now) (end_of self.now)) }
         requires year { HasNeighbours (moved_back moved_year) }
         ensures of { IsSwitchSegment self.now (moved_back moved_year) result }
-        ensures within { IsDeterminingYear self.now end_is_first unix_time (moved_back moved_year) → (result.from ≤ℤ unix_time) × (unix_time <ℤ result.until) }
+        ensures within { IsDeterminingYear self.now end_is_first unix_time (moved_back moved_year)
+            → (result.from ≤ℤ unix_time) × (unix_time <ℤ result.until) }
     {
         self.parts_are_sound();
         let first = self.switch_in_moved(end_is_first, moved_year);
@@ -111,15 +119,21 @@ impl AlternateData {
         }
     }
 
-    /// The segment of the likely year or its neighbours that the instant chooses: mostly the one around it.
+    /// The segment of the likely year or its neighbours that the instant chooses: mostly the one
+    /// around it.
     ///
-    /// Each order has code of its own, which costs fewer steps than tables that are chosen by the order.
+    /// Each order has code of its own, which costs fewer steps than tables that are chosen by the
+    /// order.
     #[inline(always)]
-    fn near_segment(&self, unix_time: i64) -> Option<AlternateSegment>
+    const fn near_segment(&self, unix_time: i64) -> Option<AlternateSegment>
         ensures of { IfSome result (λ segment. IsWholeSegment self.now segment) }
-        ensures within { IfSome result (λ segment. HasInnerSwitches self.now → (segment.from ≤ℤ unix_time) × (unix_time <ℤ segment.until)) }
+        ensures within { IfSome result (λ segment. HasInnerSwitches self.now
+            → (segment.from ≤ℤ unix_time)
+            × (unix_time <ℤ segment.until)) }
     {
-        let moved_year = likely_year(unix_time)?;
+        let Some(moved_year) = likely_year(unix_time) else {
+            return None;
+        };
         let segment = if self.ends_next_year() {
             self.segment_by_order(true, unix_time, moved_year)
         } else {
@@ -128,11 +142,13 @@ impl AlternateData {
         Some(segment)
     }
 
-    /// The segment around an instant, if the rule's switches are such that the likely year always determines it.
+    /// The segment around an instant, if the rule's switches are such that the likely year always
+    /// determines it.
     #[inline(always)]
-    fn inner_segment(&self, unix_time: i64) -> Option<AlternateSegment>
+    const fn inner_segment(&self, unix_time: i64) -> Option<AlternateSegment>
         ensures of { IfSome result (λ segment. IsWholeSegment self.now segment) }
-        ensures within { IfSome result (λ segment. (segment.from ≤ℤ unix_time) × (unix_time <ℤ segment.until)) }
+        ensures within { IfSome result (λ segment. (segment.from ≤ℤ unix_time)
+            × (unix_time <ℤ segment.until)) }
     {
         if !self.has_inner_switches() {
             return None;
@@ -142,19 +158,23 @@ impl AlternateData {
 
     /// The segment around an instant, if the likely year determines it.
     #[inline(always)]
-    fn likely_segment(&self, unix_time: i64) -> Option<AlternateSegment>
+    const fn likely_segment(&self, unix_time: i64) -> Option<AlternateSegment>
         ensures of { IfSome result (λ segment. IsWholeSegment self.now segment) }
-        ensures within { IfSome result (λ segment. (segment.from ≤ℤ unix_time) × (unix_time <ℤ segment.until)) }
+        ensures within { IfSome result (λ segment. (segment.from ≤ℤ unix_time)
+            × (unix_time <ℤ segment.until)) }
     {
-        let segment = self.near_segment(unix_time)?;
+        let Some(segment) = self.near_segment(unix_time) else {
+            return None;
+        };
         if unix_time < segment.from || segment.until <= unix_time {
             return None;
         }
         Some(segment)
     }
 
-    /// The year whose switches, with those of its neighbours, determine the segment around an instant of a year in UTC.
-    fn determining_year(&self, end_is_first: bool, unix_time: i64, year: i32) -> i32
+    /// The year whose switches, with those of its neighbours, determine the segment around an
+    /// instant of a year in UTC.
+    const fn determining_year(&self, end_is_first: bool, unix_time: i64, year: i32) -> i32
         requires { IsUtcYear unix_time year × IsRuleYear year }
         ensures beside { ((year -ℤ pos 1) ≤ℤ result) × (result ≤ℤ (year +ℤ pos 1)) }
         ensures determines { IsDeterminingYear self.now end_is_first unix_time result }
@@ -169,26 +189,30 @@ impl AlternateData {
         year + 1
     }
 
-    /// The segment around an instant by its year in UTC, within the years over which the rule is defined.
-    fn segment_in_year(&self, unix_time: i64) -> Option<AlternateSegment>
+    /// The segment around an instant by its year in UTC, within the years over which the rule is
+    /// defined.
+    const fn segment_in_year(&self, unix_time: i64) -> Option<AlternateSegment>
         ensures of { IfSome result (λ segment. IsWholeSegment self.now segment) }
-        ensures within { IfSome result (λ segment. (segment.from ≤ℤ unix_time) × (unix_time <ℤ segment.until)) }
+        ensures within { IfSome result (λ segment. (segment.from ≤ℤ unix_time)
+            × (unix_time <ℤ segment.until)) }
         ensures none { IfNone result (¬ IsInRuleYears unix_time) }
     {
-        let year = rule_year(unix_time)?;
+        let Some(year) = rule_year(unix_time) else {
+            return None;
+        };
         let end_is_first = self.ends_next_year();
         let moved_year = calendar::moved_year(self.determining_year(end_is_first, unix_time, year));
         let segment = self.segment_by_order(end_is_first, unix_time, moved_year);
         Some(AlternateSegment {
-            from: segment.from.max(new_year(FIRST_YEAR)),
-            until: segment.until.min(new_year(LAST_YEAR + 1)),
+            from: greater_i64(segment.from, new_year(FIRST_YEAR)),
+            until: lesser_i64(segment.until, new_year(LAST_YEAR + 1)),
             is_daylight: segment.is_daylight,
         })
     }
 
     /// The type of daylight saving time, or that of standard time.
     #[inline(always)]
-    pub(super) fn type_by(&self, is_daylight: bool) -> &LocalTimeType
+    pub(super) const fn type_by(&self, is_daylight: bool) -> &LocalTimeType
         ensures { result.now ≡ type_by self.now is_daylight }
     {
         if is_daylight { self.dst() } else { self.std() }
@@ -196,7 +220,7 @@ impl AlternateData {
 
     /// The segment around an instant, with its type, as a segment of the rule.
     #[inline(always)]
-    fn rule_segment(&self, unix_time: i64, segment: AlternateSegment) -> RuleSegment<'_>
+    const fn rule_segment(&self, unix_time: i64, segment: AlternateSegment) -> RuleSegment<'_>
         requires of { IsWholeSegment self.now segment }
         requires within { (segment.from ≤ℤ unix_time) × (unix_time <ℤ segment.until) }
         ensures { IsRuleSegment (Alternate self.now) unix_time result }
@@ -210,7 +234,7 @@ impl AlternateData {
 
     /// The segment around an instant that the likely year does not always determine.
     #[inline(never)]
-    fn outer_segment(&self, unix_time: i64) -> RuleSegment<'_>
+    const fn outer_segment(&self, unix_time: i64) -> RuleSegment<'_>
         ensures { IsRuleSegment (Alternate self.now) unix_time result }
     {
         if let Some(segment) = self.likely_segment(unix_time) {
@@ -222,46 +246,23 @@ impl AlternateData {
         }
     }
 
-    /// The segment around an instant: from one start or end of daylight saving time up to the next, or outside the years of rules.
+    /// The segment around an instant: from one start or end of daylight saving time up to the next,
+    /// or outside the years of rules.
     #[inline(always)]
-    pub(crate) fn segment(&self, unix_time: i64) -> RuleSegment<'_>
+    pub(crate) const fn segment(&self, unix_time: i64) -> RuleSegment<'_>
         ensures within { (result.from ≤ℤ unix_time) × (unix_time ≤ℤ result.last) }
         ensures holds { (v : ℤ) → result.from ≤ℤ v → v ≤ℤ result.last
-            → MatchOption result.local_time_type ((t : LocalTimeType) → ¬ IsRuleType (Alternate self.now) v t)
+            → MatchOption result.local_time_type ((t : LocalTimeType)
+            → ¬ IsRuleType (Alternate self.now) v t)
             (λ t. IsRuleType (Alternate self.now) v t.now) }
-        ensures from { (result.from ≢ negsuc 9223372036854775807) → IsRuleChange (Alternate self.now) result.from }
-        ensures last { (result.last ≢ pos 9223372036854775807) → IsRuleChange (Alternate self.now) (result.last +ℤ pos 1) }
+        ensures from { (result.from ≢ negsuc 9223372036854775807)
+            → IsRuleChange (Alternate self.now) result.from }
+        ensures last { (result.last ≢ pos 9223372036854775807)
+            → IsRuleChange (Alternate self.now) (result.last +ℤ pos 1) }
     {
         match self.inner_segment(unix_time) {
             Some(segment) => self.rule_segment(unix_time, segment),
             None => self.outer_segment(unix_time),
-        }
-    }
-
-    /// The type at an instant that the likely year does not always determine.
-    #[inline(never)]
-    fn outer_type(&self, unix_time: i64) -> Result<&LocalTimeType, TzError>
-        ensures ok { IfOk result (λ t. IsInRuleYears unix_time × IsAlternateType self.now unix_time t.now) }
-        ensures err { IfErr result (λ e. (e ≡ TzError.OutOfRange) × ¬ IsInRuleYears unix_time) }
-    {
-        if let Some(segment) = self.likely_segment(unix_time) {
-            return Ok(self.type_by(segment.is_daylight));
-        }
-        let Some(segment) = self.segment_in_year(unix_time) else {
-            return Err(TzError::OutOfRange);
-        };
-        Ok(self.type_by(segment.is_daylight))
-    }
-
-    /// The type at an instant.
-    #[inline(always)]
-    pub(crate) fn find_local_time_type(&self, unix_time: i64) -> Result<&LocalTimeType, TzError>
-        ensures ok { IfOk result (λ t. IsInRuleYears unix_time × IsAlternateType self.now unix_time t.now) }
-        ensures err { IfErr result (λ e. (e ≡ TzError.OutOfRange) × ¬ IsInRuleYears unix_time) }
-    {
-        match self.inner_segment(unix_time) {
-            Some(segment) => Ok(self.type_by(segment.is_daylight)),
-            None => self.outer_type(unix_time),
         }
     }
 }

@@ -1,6 +1,17 @@
 //! Transition rules: one type for all time, or an alternate rule.
 
+ghost use Rattle.std.specs.Prelude.{◌≡◌, ◌≤◌, ◌≢◌, ◌+ℤ◌, ◌≤ℤ◌, ℤ, pos, negsuc, IfOk, IfErr, MatchOption};
+ghost use Rattle.tz_rule.specs.RuleData.{rule_given};
+ghost use Rattle.tz_rule.specs.Alternate.{start_of, end_of, IsNearYear};
+ghost use Rattle.tz_rule.specs.LocalTimeType.{LocalTimeType};
+ghost use Rattle.tz_rule.specs.Rule.{IsRuleType, IsSoundRule};
+ghost use Rattle.tz_rule.specs.RuleRef.{rule_seen};
+ghost use Rattle.tz_rule.specs.RuleSegments.{IsRuleChange};
+
+use super::alternate_time::AlternateData;
+use super::rule_segments::RuleSegment;
 use super::{AlternateTime, LocalTimeType};
+use tz_base::error::TzError;
 
 /// The local time of a zone after its last transition.
 #[derive(Clone, Copy, Debug)]
@@ -18,7 +29,8 @@ impl PartialEq for TransitionRule {
 
     ghost eq = { same_rule };
 
-    ghost laws = { partial_equiv_from_equiv (IsEquivalence-from_equality same_rule Decides-same_rule) };
+    ghost laws = { partial_equiv_from_equiv
+        (IsEquivalence-from_equality same_rule Decides-same_rule) };
 
     fn eq(&self, other: &TransitionRule) -> bool {
         match (self, other) {
@@ -34,4 +46,143 @@ impl Eq for TransitionRule {
     ghost use Rattle.tz_rule.specs.SameRule.{same_rule, Decides-same_rule};
 
     ghost laws = { IsEquivalence-from_equality same_rule Decides-same_rule };
+}
+
+/// A rule, or none, in C's layout. What its kind does not use is zero.
+#[repr(C)]
+#[derive(Clone, Copy)]
+pub struct RuleData {
+    /// 0: no rule, 1: a fixed type, 2: an alternate rule.
+    pub kind: u32,
+    /// The fixed type.
+    pub fixed: LocalTimeType,
+    /// The alternate rule.
+    pub alternate: AlternateData,
+}
+
+impl RuleData {
+    /// The data of a rule, or of none.
+    pub const fn of(rule: &Option<TransitionRule>) -> Self
+        ensures rule { rule_given result ≡ rule.now }
+        ensures kind { result.kind ≤ 2 }
+    {
+        match rule {
+            None => RuleData {
+                kind: 0,
+                fixed: LocalTimeType::utc(),
+                alternate: AlternateData::zeros(),
+            },
+            Some(TransitionRule::Fixed(local_time_type)) => RuleData {
+                kind: 1,
+                fixed: *local_time_type,
+                alternate: AlternateData::zeros(),
+            },
+            Some(TransitionRule::Alternate(rule)) => RuleData {
+                kind: 2,
+                fixed: LocalTimeType::utc(),
+                alternate: *rule.plain(),
+            },
+        }
+    }
+}
+
+/// A rule that is lent: a fixed type, or the data of an alternate rule.
+#[derive(Clone, Copy)]
+pub enum RuleRef<'a> {
+    /// One type for all time.
+    Fixed(&'a LocalTimeType),
+    /// Two types that alternate.
+    Alternate(&'a AlternateData),
+}
+
+impl<'a> RuleRef<'a> {
+    /// Lends a rule.
+    #[inline(always)]
+    pub const fn of(rule: &'a TransitionRule) -> RuleRef<'a>
+        ensures { rule_seen result ≡ rule.now }
+    {
+        match rule {
+            TransitionRule::Fixed(local_time_type) => RuleRef::Fixed(local_time_type),
+            TransitionRule::Alternate(rule) => RuleRef::Alternate(rule.plain()),
+        }
+    }
+
+    /// The rule that is lent.
+    pub fn rule(self) -> TransitionRule
+        ensures { result ≡ rule_seen self.entry }
+    {
+        match self {
+            RuleRef::Fixed(local_time_type) => TransitionRule::Fixed(*local_time_type),
+            RuleRef::Alternate(plain) => TransitionRule::Alternate(AlternateTime::of_plain(plain)),
+        }
+    }
+}
+
+/// The instant at which daylight saving time starts in a year.
+pub fn start(rule: &AlternateTime, year: i32) -> i64
+    ensures value { result ≡ start_of rule.now year }
+    ensures bound { IsNearYear result year }
+{
+    rule.plain().switch_in(false, year)
+}
+
+/// The instant at which daylight saving time ends in a year.
+pub fn end(rule: &AlternateTime, year: i32) -> i64
+    ensures value { result ≡ end_of rule.now year }
+    ensures bound { IsNearYear result year }
+{
+    rule.plain().switch_in(true, year)
+}
+
+/// The segment of the rule around an instant: the first and the last instant through which it has
+/// one type, or none.
+#[tactic(auto, unfolding(crate::specs::Rule::IsRuleType))]
+#[inline(always)]
+pub const fn segment_at<'a>(rule: RuleRef<'a>, unix_time: i64) -> RuleSegment<'a>
+    ensures within { (result.from ≤ℤ unix_time) × (unix_time ≤ℤ result.last) }
+    ensures holds { (v : ℤ) → result.from ≤ℤ v → v ≤ℤ result.last
+        → MatchOption result.local_time_type ((t : LocalTimeType)
+        → ¬ IsRuleType (rule_seen rule.entry) v t)
+        (λ t. IsRuleType (rule_seen rule.entry) v t.now) }
+    ensures from { (result.from ≢ negsuc 9223372036854775807)
+        → IsRuleChange (rule_seen rule.entry) result.from }
+    ensures last { (result.last ≢ pos 9223372036854775807)
+        → IsRuleChange (rule_seen rule.entry) (result.last +ℤ pos 1) }
+{
+    match rule {
+        RuleRef::Fixed(local_time_type) => RuleSegment {
+            from: i64::MIN,
+            last: i64::MAX,
+            local_time_type: Some(local_time_type),
+        },
+        RuleRef::Alternate(rule) => rule.segment(unix_time),
+    }
+}
+
+/// The type of the rule at an instant. An alternate rule has one in the UTC years that are two or
+/// more from both ends of `i32`.
+#[inline(always)]
+pub const fn find_local_time_type<'a>(
+    rule: RuleRef<'a>,
+    unix_time: i64,
+) -> Result<&'a LocalTimeType, TzError>
+    ensures ok { IfOk result (λ t. IsRuleType (rule_seen rule.entry) unix_time t.now) }
+    ensures err { IfErr result (λ e. (e ≡ TzError.OutOfRange)
+        × ((t : LocalTimeType) → ¬ IsRuleType (rule_seen rule.entry) unix_time t)) }
+{
+    match segment_at(rule, unix_time).local_time_type {
+        Some(local_time_type) => Ok(local_time_type),
+        None => Err(TzError::OutOfRange),
+    }
+}
+
+/// The rule and its days pass the checks of their constructors. This does nothing; its contract is
+/// what holds of every rule.
+pub const fn parts_are_sound(rule: RuleRef<'_>)
+    ensures { IsSoundRule (rule_seen rule.entry) }
+{
+    match rule {
+        RuleRef::Fixed(_) => {}
+        RuleRef::Alternate(rule) => rule.parts_are_sound(),
+    }
 }

@@ -1,7 +1,7 @@
 //! The parts of UTC's zone, in statics.
 //!
-//! A static holds no type with a model. So the statics are of plain types whose fields lie as those of the types with a model do, and are lent as
-//! these.
+//! A static holds no type with a model. So the statics are of plain types whose fields lie as those
+//! of the types with a model do, and are lent as these.
 
 ghost use Rattle.std.specs.Prelude.{◌≡◌, [], ◌∷◌, false, pos};
 ghost use Rattle.tz_rule.specs.Designation.{kept};
@@ -38,7 +38,12 @@ pub fn utc_types() -> &'static [LocalTimeType]
 
 /// UTC's type, from its fields.
 fn utc_type(fields: &TypeFields) -> &LocalTimeType
-    requires { fields.now ≡ record { ut_offset = pos 0; is_dst = false; time_zone_designation = kept None } }
+    requires { fields.now ≡ record {
+      ut_offset = pos 0;
+      is_dst = false;
+      time_zone_designation =
+          kept None;
+    } }
     ensures { result.now ≡ plain_type (pos 0) }
 {
     unsafe { &*(fields as *const TypeFields as *const LocalTimeType) }

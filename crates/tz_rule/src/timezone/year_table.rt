@@ -1,73 +1,129 @@
-//! Tables of an instant of each year, by the kind of the year. Their order, and how it changes, is in `consistency.rt`.
+//! The days of a rule in each kind of year, and the years around an instant.
 
-ghost use Rattle.std.specs.Prelude.{◌≡◌, ◌<◌, ◌≤◌, ◌*◌, replicate, pos, negsuc, ◌+ℤ◌, ◌≤ℤ◌};
+ghost use Rattle.std.specs.Prelude.{◌≡◌, ◌+◌, ◌*◌, ◌/◌, ◌%◌, ◌^◌, ◌<◌, ◌≤◌, pos, negsuc, ◌-ℤ◌, ◌*ℤ◌, ◌≤ℤ◌, replicate, ◌+ℤ◌, IfSome, IfNone};
+ghost use Rattle.tz_base.specs.Days.{first_day};
+ghost use Rattle.tz_rule.specs.Kinds.{kind_of as kind_by, year_kind};
 ghost use Rattle.tz_rule.specs.RuleDays.{IsRuleDay};
-ghost use Rattle.tz_rule.specs.LikelyYears.{moved_back};
+ghost use Rattle.tz_rule.specs.LikelyYears.{moved_back, IsLikelyYear, IsTriedYear};
 ghost use Rattle.tz_rule.specs.YearTables.{instant_in, entry, day_table, AreBounds, least_entry, greatest_entry, is_inner};
+ghost use Rattle.tz_rule.specs.Alternate.{IsUtcYear, IsRuleYear, IsInRuleYears};
 
 use super::RuleDay;
-use super::year_kinds::{KINDS, moved_year_start};
-use tz_base::calendar;
+use tz_base::calendar::{
+    self, ADDED_DAYS, days_before_moved_year, first_day_of_year, is_moved_year_leap, moved_seconds,
+};
+use tz_base::constants::SECONDS_PER_DAY;
+use tz_base::fields::{Fields, is_reading};
+use tz_base::order::{greater_i32, lesser_i32};
 
-/// How many seconds after 00:00 UTC of January 1st an instant of the year is, for each kind of years.
+/// How many kinds of years there are.
+pub(super) const KINDS: usize = 14;
+
+/// The kind of the years that are leap, or are not, and whose January 1st has the week day.
+#[inline(always)]
+const fn kind_of(leap: bool, first_week_day: u8) -> usize
+    requires { first_week_day < 7 }
+    ensures value { result ≡ kind_by leap first_week_day }
+    ensures below { result < 14 }
+{
+    let week_day = first_week_day as usize;
+    if leap { 7 + week_day } else { week_day }
+}
+
+/// A seventh of 2^64, rounded up.
+const SEVENTH: u64 = 2_635_249_153_387_078_803;
+
+/// The days modulo 7. If r is that remainder, `days * SEVENTH` modulo 2^64 is r sevenths of 2^64,
+/// or slightly more.
+#[inline(always)]
+const fn days_over_weeks(days: u64) -> u8
+    requires { days < 2 ^ 43 }
+    ensures value { result ≡ days % 7 }
+    ensures below { result < 7 }
+{
+    let fraction = days.wrapping_mul(SEVENTH);
+    (fraction as u128 * 7 / 18_446_744_073_709_551_616) as u8
+}
+
+/// 00:00 UTC of a moved year's January 1st, and the kind of the year.
+#[inline(always)]
+pub(super) const fn moved_year_start(moved_year: u64) -> (i64, usize)
+    requires { (352 ≤ moved_year) × (moved_year ≤ 4294967647) }
+    ensures start { result.0 ≡ pos 86400 *ℤ first_day (pos moved_year -ℤ pos 2147484000) }
+    ensures kind { result.1 ≡ year_kind (pos moved_year -ℤ pos 2147484000) }
+    ensures bound { (negsuc 67768100567971199 ≤ℤ result.0) × (result.0 ≤ℤ pos 67767976202016000) }
+    ensures below { result.1 < 14 }
+{
+    let days = days_before_moved_year(moved_year);
+    // The days are counted from January 1st of the year -2147484000, a Saturday: 6 from Sunday = 0.
+    let kind = kind_of(is_moved_year_leap(moved_year), days_over_weeks(days + 6));
+    (SECONDS_PER_DAY * (days as i64 - ADDED_DAYS), kind)
+}
+
+/// How many seconds after 00:00 UTC of January 1st an instant of the year is, for each kind of
+/// years.
 #[repr(C)]
 #[derive(Clone, Copy)]
 pub(super) struct YearTable([i32; KINDS]);
 
-/// Ten days after New Year. If no start and no end lies before it, or in the last ten days of its year, the likely year determines the segment: it is
-/// another one than the instant's only within two days of a New Year, where then no start or end lies.
+/// Ten days after New Year. If no start and no end lies before it, or in the last ten days of its
+/// year, the likely year determines the segment: it is another one than the instant's only within
+/// two days of a New Year, where then no start or end lies.
 const INNER_START: i32 = 864_000;
 
 /// Ten days before the end of the shortest year.
 const INNER_END: i32 = 30_672_000;
 
-/// The seconds from 00:00 UTC of January 1st to a time after 00:00 UTC of the day at a place of the year.
+/// The seconds from 00:00 UTC of January 1st to a time after 00:00 UTC of a day of the year, from
+/// 0.
 #[inline(always)]
-fn seconds_to(place: u16, seconds: i32) -> i32
-    requires place { place ≤ 365 }
+const fn seconds_to(year_day: u16, seconds: i32) -> i32
+    requires year_day { year_day ≤ 365 }
     requires seconds { (negsuc 999999 ≤ℤ seconds) × (seconds ≤ℤ pos 999999) }
-    ensures { result ≡ pos (86400 * place) +ℤ seconds }
+    ensures { result ≡ pos (86400 * year_day) +ℤ seconds }
 {
-    86_400 * i32::from(place) + seconds
+    86_400 * year_day as i32 + seconds
 }
 
 impl YearTable {
     /// The table of zeros.
-    pub(super) fn zeros() -> YearTable
+    pub(super) const fn zeros() -> YearTable
         ensures { result.0 ≡ replicate 14 (pos 0) }
     {
         YearTable([0; KINDS])
     }
 
     /// The table of a time after 00:00 UTC of a rule day, in seconds.
-    pub(super) fn of_day(day: &RuleDay, seconds: i32) -> YearTable
+    pub(super) const fn of_day(day: &RuleDay, seconds: i32) -> YearTable
         requires { (negsuc 999999 ≤ℤ seconds) × (seconds ≤ℤ pos 999999) }
         ensures table { result.0 ≡ day_table day.now seconds }
         ensures day { IsRuleDay day.now }
     {
-        let normal = day.places(false);
-        let leap = day.places(true);
+        let normal = day.year_days(false);
+        let leap = day.year_days(true);
         let mut entries = [0; KINDS];
-        for week_day in 0..7 {
+        let mut week_day = 0;
+        while week_day < 7 {
             entries[week_day] = seconds_to(normal[week_day], seconds);
             entries[7 + week_day] = seconds_to(leap[week_day], seconds);
+            week_day += 1;
         }
         YearTable(entries)
     }
 
     /// Seconds from New Year, 00:00 UTC, in years of this kind.
     #[inline(always)]
-    pub(super) fn entry(&self, kind: usize) -> i64
+    pub(super) const fn entry(&self, kind: usize) -> i64
         requires { kind < 14 }
         ensures value { result ≡ entry self.now.0 kind }
         ensures bound { (negsuc 2147483647 ≤ℤ result) × (result ≤ℤ pos 2147483647) }
     {
-        i64::from(self.0[kind])
+        self.0[kind] as i64
     }
 
     /// The instant of a moved year.
     #[inline(always)]
-    pub(super) fn in_moved_year(&self, moved_year: u64) -> i64
+    pub(super) const fn in_moved_year(&self, moved_year: u64) -> i64
         requires { (352 ≤ moved_year) × (moved_year ≤ 4294967647) }
         ensures { result ≡ instant_in self.now.0 (moved_back moved_year) }
     {
@@ -77,31 +133,83 @@ impl YearTable {
 
     /// The instant of a year.
     #[inline(always)]
-    pub(super) fn in_year(&self, year: i32) -> i64
+    pub(super) const fn in_year(&self, year: i32) -> i64
         ensures { result ≡ instant_in self.now.0 year }
     {
         self.in_moved_year(calendar::moved_year(year))
     }
 
     /// The least and the greatest seconds of all kinds.
-    pub(super) fn bounds(&self) -> (i32, i32)
+    pub(super) const fn bounds(&self) -> (i32, i32)
         ensures bounds { AreBounds self.now.0 result.0 result.1 }
         ensures least { result.0 ≡ least_entry self.now.0 14 }
         ensures greatest { result.1 ≡ greatest_entry self.now.0 14 }
     {
         let (mut least, mut greatest) = (i32::MAX, i32::MIN);
-        for kind in 0..KINDS {
-            least = least.min(self.0[kind]);
-            greatest = greatest.max(self.0[kind]);
+        let mut kind = 0;
+        while kind < KINDS {
+            least = lesser_i32(least, self.0[kind]);
+            greatest = greater_i32(greatest, self.0[kind]);
+            kind += 1;
         }
         (least, greatest)
     }
 
-    /// Whether the instant of each year is ten days or more from the ends of the year, also if that has 365 days.
-    pub(super) fn is_inner(&self) -> bool
+    /// Whether the instant of each year is ten days or more from the ends of the year, also if that
+    /// has 365 days.
+    pub(super) const fn is_inner(&self) -> bool
         ensures { result ≡ is_inner self.now.0 }
     {
         let (least, greatest) = self.bounds();
         INNER_START <= least && greatest < INNER_END
     }
+}
+
+/// The first year over which a rule is defined.
+pub(super) const FIRST_YEAR: i32 = i32::MIN + 2;
+
+/// The last year over which a rule is defined.
+pub(super) const LAST_YEAR: i32 = i32::MAX - 2;
+
+/// How far from 1970 `likely_year` has an answer: up to there the year of an instant, the two
+/// before it and the two after it are years over which a rule is defined.
+const GREATEST_DISTANCE: i64 = 60_000_000_000_000_000;
+
+/// The seconds of a year, on the average of 400 years.
+const SECONDS_PER_YEAR: u64 = 31_556_952;
+
+/// 00:00 UTC of a year's January 1st.
+pub(super) const fn new_year(year: i32) -> i64
+    ensures value { result ≡ pos 86400 *ℤ first_day year }
+    ensures bound { (negsuc 67768100567971199 ≤ℤ result) × (result ≤ℤ pos 67767976202016000) }
+{
+    SECONDS_PER_DAY * first_day_of_year(year)
+}
+
+/// The year of an instant in UTC, if rules are defined over it.
+pub(super) const fn rule_year(unix_time: i64) -> Option<i32>
+    ensures some { IfSome result (λ year. IsUtcYear unix_time year × IsRuleYear year) }
+    ensures none { IfNone result (¬ IsInRuleYears unix_time) }
+{
+    if !is_reading(unix_time) {
+        return None;
+    }
+    let year = Fields::from_reading(unix_time, 0).year;
+    if year < FIRST_YEAR || year > LAST_YEAR {
+        return None;
+    }
+    Some(year)
+}
+
+/// The year of an instant in UTC, or a neighbour of it if the New Year between them is less than
+/// two days away, moved by cycles of 400 years.
+#[inline(always)]
+pub(super) const fn likely_year(unix_time: i64) -> Option<u64>
+    ensures year { IfSome result (λ moved_year. IsTriedYear (moved_back moved_year)) }
+    ensures likely { IfSome result (λ moved_year. IsLikelyYear unix_time (moved_back moved_year)) }
+{
+    if unix_time < -GREATEST_DISTANCE || unix_time > GREATEST_DISTANCE {
+        return None;
+    }
+    Some(moved_seconds(unix_time) / SECONDS_PER_YEAR)
 }

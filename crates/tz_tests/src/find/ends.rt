@@ -7,7 +7,8 @@ use super::*;
 use crate::expect::expect_eq;
 use tz_samples::zones::two_hours_forward_at;
 
-/// The zone of a rule with the greatest and the least offset and the latest and the earliest times that a rule may have. No TZ string denotes it.
+/// The zone of a rule with the greatest and the least offset and the latest and the earliest times
+/// that a rule may have. No TZ string denotes it.
 fn widest(alloc: Global) -> Result<TimeZone, TzError> {
     static WIDEST: RuleRow = (
         (93_599, false, Some(b"A")),
@@ -49,7 +50,8 @@ fn searches_by_the_widest_rule(rt: HostRuntime) -> Result<(), Fail> {
     expect_texts(&rt, rt.alloc(), zone.as_ref(), ROWS)
 }
 
-/// The transition takes effect at the first instant at which its leap time is reached, which the leap second delays by a second.
+/// The transition takes effect at the first instant at which its leap time is reached, which the
+/// leap second delays by a second.
 #[test]
 fn a_jump_at_a_negative_leap_second(rt: HostRuntime) -> Result<(), Fail> {
     static ZONE: ZoneRow = ZoneRow {
@@ -144,7 +146,8 @@ fn expect_out_of_range_in(
     assert!(rt; are_untouched_or_listed(slots, listed));
 }
 
-/// All searches of a reading are refused as out of range, whose list has these entries that can be made.
+/// All searches of a reading are refused as out of range, whose list has these entries that can be
+/// made.
 fn expect_out_of_range(
     rt: &impl Abort,
     alloc: Global,
@@ -168,15 +171,18 @@ const LAST: Reading = (i32::MAX, 12, 31, 23, 30, 0);
 
 const LAST_SECOND: Reading = (i32::MAX, 12, 31, 23, 59, 60);
 
-/// A jump can't be listed where the local time before it or after it lies outside the years of 32 bits.
+/// A jump can't be listed where the local time before it or after it lies outside the years of 32
+/// bits.
 #[test]
 fn jumps_past_the_ends_are_out_of_range(rt: HostRuntime) -> Result<(), Fail> {
     // When clocks of UTC are set two hours forward.
     static REFUSED: [(i64, Reading); 5] = [
-        // From 23:00 of the year before the first one to 01:00, and from the second before the first one of all.
+        // From 23:00 of the year before the first one to 01:00, and from the second before the
+        // first one of all.
         (utc!(-2147483649-12-31 23:00:00), FIRST),
         (utc!(-2147483649-12-31 23:59:59), FIRST),
-        // From 23:00 to 01:00 of the year after the last one, and to the second after the last one of all.
+        // From 23:00 to 01:00 of the year after the last one, and to the second after the last one
+        // of all.
         (utc!(2147483647-12-31 23:00:00), LAST),
         (utc!(2147483647-12-31 22:00:00), LAST),
         // From that second on: both sides lie outside, and second 60 between them.
@@ -217,7 +223,8 @@ fn date_times_past_the_ends_of_utc_are_found(rt: HostRuntime) -> Result<(), Fail
     Ok(())
 }
 
-/// A jump with both sides in the years of 32 bits is found, and what is shown beside one that can't be listed.
+/// A jump with both sides in the years of 32 bits is found, and what is shown beside one that can't
+/// be listed.
 #[test]
 fn jumps_up_to_the_ends_are_found(rt: HostRuntime) -> Result<(), Fail> {
     // When clocks of UTC are set two hours forward.

@@ -3,29 +3,7 @@
 use super::*;
 use crate::expect::expect_eq;
 use tz::datetime::UtcDateTime;
-use tz_samples::zones::ONE_EFFECT;
-
-/// When the transition at a place takes effect.
-fn seconds_to(place: usize) -> i64 {
-    i64::try_from(place).unwrap_or(0).wrapping_mul(1_000_000)
-}
-
-/// This many transitions, a million seconds apart, between two types that are an hour apart.
-fn alternating(alloc: Global, len: usize) -> Result<Vec<Transition>, AllocError> {
-    let mut transitions = Vec::new(alloc);
-    for place in 0..len {
-        let unix_leap_time = seconds_to(place);
-        transitions.push(Transition::new(unix_leap_time, place % 2))?;
-    }
-    Ok(transitions)
-}
-
-fn hour_apart() -> Result<[LocalTimeType; 2], TzError> {
-    Ok([
-        LocalTimeType::with_ut_offset(0)?,
-        LocalTimeType::with_ut_offset(3600)?,
-    ])
-}
+use tz_samples::zones::{ONE_EFFECT, hour_apart, transitions_in_turn};
 
 #[test]
 fn a_thousand_transitions(rt: HostRuntime) -> Result<(), Fail> {
@@ -38,7 +16,7 @@ fn a_thousand_transitions(rt: HostRuntime) -> Result<(), Fail> {
         ((1985, 11, 16, 15, 0, 0), &[(501_000_000, 0, 3600)]),
     ];
     let types = hour_apart()?;
-    let transitions = alternating(rt.alloc(), 1024)?;
+    let transitions = transitions_in_turn(rt.alloc(), 1024)?;
     let rule = None;
     let zone = TimeZoneRef::new(transitions.as_slice(), &types, &[], &rule)?;
     for (reading, expected) in &ROWS {
@@ -59,7 +37,8 @@ fn reading_of(seconds: i64) -> Result<Reading, TzError> {
 /// The least and the greatest number of looks.
 type Range = (u64, u64);
 
-/// Searches around an instant of the table find what `find` finds. Their looks, and those of the range.
+/// Searches around an instant of the table find what `find` finds. Their looks, and those of the
+/// range.
 fn expect_around(
     rt: &impl Abort,
     alloc: Global,
@@ -79,25 +58,27 @@ fn expect_around(
     Ok((least, greatest))
 }
 
-/// Searches near the front, in the middle and past the end of a table find what `find` finds. Their looks.
-fn expect_ends(rt: &impl Abort, alloc: Global, len: usize) -> Result<Range, TzError> {
+/// Searches near the front, in the middle and past the end of a table find what `find` finds. Their
+/// looks.
+fn expect_ends(rt: &impl Abort, alloc: Global, count: u32) -> Result<Range, TzError> {
     let types = hour_apart()?;
-    let transitions = alternating(alloc, len)?;
+    let transitions = transitions_in_turn(alloc, count)?;
     let rule = None;
     let zone = TimeZoneRef::new(transitions.as_slice(), &types, &[], &rule)?;
-    let past = seconds_to(len);
+    let past = i64::from(count) * 1_000_000;
     let mut range = (u64::MAX, 0);
-    for start in [-1_000_000, 0, 500_000, past.wrapping_sub(1_000_000), past] {
+    for start in [-1_000_000, 0, 500_000, past - 1_000_000, past] {
         range = expect_around(rt, alloc, zone, start, range)?;
     }
     Ok(range)
 }
 
-/// The last transition is read twice if that is enough. Otherwise one is read at each step of one halving, and at most three after it.
+/// The last transition is read twice if that is enough. Otherwise one is read at each step of one
+/// halving, and at most three after it.
 #[test]
 fn tables_around_powers_of_two(rt: HostRuntime) -> Result<(), Fail> {
     // Numbers of transitions, and the least and the greatest number of looks.
-    static ROWS: [(usize, u64, u64); 15] = [
+    static ROWS: [(u32, u64, u64); 15] = [
         (0, 0, 0),
         (1, 2, 3),
         (2, 2, 5),
@@ -115,19 +96,25 @@ fn tables_around_powers_of_two(rt: HostRuntime) -> Result<(), Fail> {
         (129, 2, 12),
     ];
     for row in &ROWS {
-        let (len, ..) = *row;
-        let (least, greatest) = expect_ends(&rt, rt.alloc(), len)?;
-        expect_eq(&rt, &(len, least, greatest), row);
+        let (count, ..) = *row;
+        let (least, greatest) = expect_ends(&rt, rt.alloc(), count)?;
+        expect_eq(&rt, &(count, least, greatest), row);
     }
     Ok(())
 }
 
+/// After the last transition, those of a halving and two at the window's start are read, a walk
+/// reads the one before the window once, and so each one from there up to the first after it.
 #[test]
-fn transitions_of_one_effect_are_each_looked_at(rt: HostRuntime) -> Result<(), Fail> {
+fn each_transition_of_a_walk_is_looked_at_once(rt: HostRuntime) -> Result<(), Fail> {
     static JUMP: [Summary; 1] = [(100, 0, 7200)];
     let zone = zone_of(rt.alloc(), &ONE_EFFECT)?;
-    let zone = zone.as_ref();
-    let looks = expect_counted(&rt, &mut [None; 1], zone, (1970, 1, 1, 1, 8, 20), &JUMP)?;
-    assert!(rt; 2 <= looks);
+    let reading = (1970, 1, 1, 1, 8, 20);
+    let looks = expect_counted(&rt, &mut [None; 1], zone.as_ref(), reading, &JUMP)?;
+    expect_eq(&rt, &looks, &(1 + 1 + 2 + 2));
+    let zone = zone_of(rt.alloc(), &CROSSING)?;
+    let reading = (1970, 1, 1, 2, 30, 0);
+    let looks = expect_counted(&rt, &mut [None; 3], zone.as_ref(), reading, &CROSSED)?;
+    expect_eq(&rt, &looks, &(1 + 3 + 2 + 1 + 5));
     Ok(())
 }

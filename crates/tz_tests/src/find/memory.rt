@@ -4,13 +4,11 @@ use super::*;
 use crate::expect::expect_eq;
 use tz_samples::refusing::Refusing;
 
-/// What is found of half past two in the zone with jumps that cross.
-static CROSSED: [Summary; 3] = [FIRST_JUMP, (19_800, -10_800, -10_800), SECOND_JUMP];
-
 /// Of this many allocations that are passed on, with how few a call is refused, if it is.
 const MOST: u64 = 12;
 
-/// What `find` finds where a number of allocations are passed on, if there is memory, and how many are refused.
+/// What `find` finds where a number of allocations are passed on, if there is memory, and how many
+/// are refused.
 fn found_with(
     alloc: Global,
     left: u64,
@@ -25,7 +23,8 @@ fn found_with(
     }
 }
 
-/// `find` is refused memory exactly where a growth is refused, and else it finds these; how many growths it has.
+/// `find` is refused memory exactly where a growth is refused, and else it finds these; how many
+/// growths it has.
 fn growths(
     rt: &impl Abort,
     alloc: Global,
@@ -120,8 +119,8 @@ enum Outcome {
     Copied,
 }
 
-/// The jumps that cross, found in their zone and copied where a number of allocations are passed on; and how many allocations were refused
-/// and not freed.
+/// The jumps that cross, found in their zone and copied where a number of allocations are passed
+/// on; and how many allocations were refused and not freed.
 fn copied_with(
     rt: &impl Abort,
     alloc: Global,

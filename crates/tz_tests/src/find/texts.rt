@@ -237,7 +237,8 @@ fn a_rule_for_all_the_year(rt: HostRuntime) -> Result<(), Fail> {
     expect_texts_by_rule(&rt, rt.alloc(), "A0B,J1/0,J365/48", OVERLAPPED)
 }
 
-/// Each end that belongs to a start comes one second before it, so no daylight saving time has any length.
+/// Each end that belongs to a start comes one second before it, so no daylight saving time has any
+/// length.
 #[test]
 fn a_rule_with_empty_spans(rt: HostRuntime) -> Result<(), Fail> {
     static ROWS: &str = "\
@@ -266,7 +267,8 @@ fn a_rule_with_overlapping_spans(rt: HostRuntime) -> Result<(), Fail> {
     expect_texts_by_rule(&rt, rt.alloc(), "A0B0,0/0,J365/24:59:59", ROWS)
 }
 
-/// In years that are not leap both days are March 1st: the end is then paired with the start a year before, as in leap years.
+/// In years that are not leap both days are March 1st: the end is then paired with the start a year
+/// before, as in leap years.
 #[test]
 fn a_rule_with_a_tie(rt: HostRuntime) -> Result<(), Fail> {
     static ROWS: &str = "\

@@ -1,24 +1,142 @@
-//! The clock's type at an instant, over a view of the transitions: that of the transition before the instant's place, type number 0 before the first
-//! transition, and from the last one on, or in a zone without transitions, that of `after_table`, or none.
+//! The clock's type at an instant, over a view of the transitions.
 
-ghost use Rattle.std.specs.Prelude.{◌≡◌, ℕ, ◌+◌, ◌^◌, ◌<◌, ◌≤◌, [], length, IfOk, IfErr, MatchOption};
-ghost use Rattle.tz_zone.specs.Clock.{IsClock, IsLookupFault};
-ghost use Rattle.tz_zone.specs.ValidZone.{IsSoundTable};
-ghost use Rattle.tz_zone.specs.ZoneSeen.{zone_seen};
+ghost use Rattle.std.specs.Prelude.{◌≡◌, ◌≢◌, ℤ, pos, negsuc, ◌+ℤ◌, ◌≤ℤ◌, MatchOption, ◌+◌, ◌<◌, ◌≤◌, length, slice_get, Some, ℕ, ◌^◌, [], IfOk, IfErr};
+ghost use Rattle.tz_rule.specs.LocalTimeType.{LocalTimeType};
+ghost use Rattle.tz_zone.specs.Clock.{IsTypeAfter, IsTypeAfterTable, IsTypeAt, IsTypeOfLast, IsClock, HasNoType, IsLookupFault};
+ghost use Rattle.tz_zone.specs.TableChanges.{IsChangeByRule};
+ghost use Rattle.tz_zone.specs.ZoneOfData.{zone_of_data};
+ghost use Rattle.tz_zone.specs.ClockSegments.{IsBefore, IsReachedAt};
 
-use super::after_table::after_table;
-use super::place::place_at;
-use super::types_at_places::type_before;
-use crate::table::{OtherParts, Transitions};
+use super::position::position_at;
+use super::segment::Segment;
+use crate::table::{Transition, Transitions, Uncounted};
+use crate::timezone::zone_data::ZoneData;
 use tz_base::error::TzError;
 use tz_rule::timezone::LocalTimeType;
 
-/// Why there is no type from the last transition on, or in a zone without transitions: there is no rule, or it is not defined at the instant.
+/// The segment around an instant of a clock whose transitions are all reached, or of one that has
+/// none: that of the extra rule. Without a rule the segment is all time, with type number 0 if the
+/// zone has no transitions, and otherwise with none.
 #[inline(always)]
-fn fault_after(parts: OtherParts<'_>) -> TzError
-    ensures { MatchOption (zone_seen [] parts.entry).extra_rule (result ≡ TzError.NoAvailableLocalTimeType) (λ rule. result ≡ TzError.OutOfRange) }
+pub(super) fn after_table<'a>(zone: &ZoneData<'a>, is_empty: bool, unix_time: i64) -> Segment<'a>
+    ensures within { (result.from ≤ℤ unix_time) × (unix_time ≤ℤ result.last) }
+    ensures holds { (v : ℤ) → result.from ≤ℤ v → v ≤ℤ result.last
+        → MatchOption result.local_time_type
+        ((t : LocalTimeType) → ¬ IsTypeAfterTable is_empty (zone_of_data zone.now) v t)
+        (λ t. IsTypeAfterTable is_empty (zone_of_data zone.now) v t.now) }
+    ensures from { result.from ≢ negsuc 9223372036854775807
+        → IsChangeByRule (zone_of_data zone.now).extra_rule result.from }
+    ensures last { result.last ≢ pos 9223372036854775807
+        → IsChangeByRule (zone_of_data zone.now).extra_rule (result.last +ℤ pos 1) }
 {
-    match parts.extra_rule.lent() {
+    let Some(rule) = zone.rule() else {
+        return Segment {
+            from: i64::MIN,
+            last: i64::MAX,
+            local_time_type: if is_empty {
+                Some(&zone.local_time_types[0])
+            } else {
+                None
+            },
+        };
+    };
+    let segment = tz_rule::inner::segment_at(rule, unix_time);
+    Segment {
+        from: segment.from,
+        last: segment.last,
+        local_time_type: segment.local_time_type,
+    }
+}
+
+/// The type at an instant from the last transition on. Not inlined, so that walks over positions
+/// stay small.
+#[inline(never)]
+pub(super) fn type_from_last<'a>(zone: &ZoneData<'a>, unix_time: i64) -> Option<&'a LocalTimeType>
+    ensures { MatchOption result
+        ((t : LocalTimeType) → ¬ IsTypeAfter (zone_of_data zone.now).extra_rule unix_time t)
+        (λ t. IsTypeAfter (zone_of_data zone.now).extra_rule unix_time t.now) }
+{
+    after_table(zone, false, unix_time).local_time_type
+}
+
+/// The last transition before a position. If there is none, one at the least leap time, to the
+/// first type.
+#[inline(always)]
+pub(super) fn before<V: Transitions>(view: &mut V, position: usize) -> Transition
+    requires { position ≤ length (V.list view.old) }
+    ensures same { V.list view.new ≡ V.list view.old }
+    ensures before { IsBefore (V.list view.old) position result }
+    ensures kept { V.looks view.old ≤ V.looks view.new }
+    ensures at_most { V.looks view.new ≤ V.looks view.old + 1 }
+    ensures first { position ≡ 0 → V.looks view.new ≡ V.looks view.old }
+{
+    if position == 0 {
+        return Transition::new(i64::MIN, 0);
+    }
+    view.look(position - 1)
+}
+
+/// The type of a transition.
+#[inline(always)]
+pub(super) fn type_of<'a>(zone: &ZoneData<'a>, change: Transition) -> &'a LocalTimeType
+    requires { change.type_index < length (zone_of_data zone.now).types }
+    ensures { IsTypeAt (zone_of_data zone.now) change.type_index result.now }
+{
+    &zone.local_time_types[change.local_time_type_index()]
+}
+
+/// The type of the last transition before a position, or the first type if there is none.
+#[inline(always)]
+pub(super) fn type_before<'a, V: Transitions>(
+    view: &mut V,
+    zone: &ZoneData<'a>,
+    position: usize,
+) -> &'a LocalTimeType
+    requires view { V.list view.old ≡ (zone_of_data zone.now).transitions }
+    requires position { position ≤ length (V.list view.old) }
+    ensures same { V.list view.new ≡ V.list view.old }
+    ensures value { IsTypeOfLast (zone_of_data zone.now) position result.now }
+    ensures kept { V.looks view.old ≤ V.looks view.new }
+    ensures at_most { V.looks view.new ≤ V.looks view.old + 1 }
+    ensures first { position ≡ 0 → V.looks view.new ≡ V.looks view.old }
+{
+    let change = before(view, position);
+    type_of(zone, change)
+}
+
+/// The type at an instant, from a position at which it lies, or from an earlier position whose type
+/// is the same.
+#[inline(always)]
+pub(super) fn type_at<'a>(
+    zone: &ZoneData<'a>,
+    position: usize,
+    unix_time: i64,
+) -> Option<&'a LocalTimeType>
+    requires within { position ≤ length (zone_of_data zone.now).transitions }
+    requires at_least_one { 0 < length (zone_of_data zone.now).transitions }
+    requires before { position < length (zone_of_data zone.now).transitions → (t : LocalTimeType)
+        → IsTypeOfLast (zone_of_data zone.now) position t
+        → IsClock (zone_of_data zone.now) unix_time t }
+    requires all { position ≡ length (zone_of_data zone.now).transitions
+        → IsReachedAt (zone_of_data zone.now) unix_time position }
+    ensures { MatchOption result (HasNoType (zone_of_data zone.now) unix_time)
+        (λ t. IsClock (zone_of_data zone.now) unix_time t.now) }
+{
+    let transitions = zone.transitions;
+    if position == transitions.len() {
+        return type_from_last(zone, unix_time);
+    }
+    Some(type_before(&mut Uncounted::new(transitions), zone, position))
+}
+
+/// Why there is no type from the last transition on, or in a zone without transitions: there is no
+/// rule, or it is not defined at the instant.
+#[inline(always)]
+fn fault_after(zone: &ZoneData<'_>) -> TzError
+    ensures { MatchOption (zone_of_data zone.now).extra_rule
+        (result ≡ TzError.NoAvailableLocalTimeType) (λ rule. result ≡ TzError.OutOfRange) }
+{
+    match zone.rule() {
         Some(_) => TzError::OutOfRange,
         None => TzError::NoAvailableLocalTimeType,
     }
@@ -28,29 +146,31 @@ fn fault_after(parts: OtherParts<'_>) -> TzError
 #[inline(always)]
 pub fn find_local_time_type<'a, V: Transitions>(
     view: &mut V,
-    parts: OtherParts<'a>,
+    zone: &ZoneData<'a>,
     unix_time: i64,
 ) -> Result<&'a LocalTimeType, TzError>
-    requires { IsSoundTable (zone_seen (V.list view.old) parts) }
+    requires view { V.list view.old ≡ (zone_of_data zone.now).transitions }
     ensures same { V.list view.new ≡ V.list view.old }
-    ensures ok { IfOk result (λ t. IsClock (zone_seen (V.list view.old) parts.entry) unix_time t.now) }
-    ensures err { IfErr result (IsLookupFault (zone_seen (V.list view.old) parts.entry) unix_time) }
+    ensures ok { IfOk result (λ t. IsClock (zone_of_data zone.now) unix_time t.now) }
+    ensures err { IfErr result (IsLookupFault (zone_of_data zone.now) unix_time) }
     ensures kept { V.looks view.old ≤ V.looks view.new }
-    ensures at_most { (b : ℕ) → length (V.list view.old) < 2 ^ b → V.looks view.new ≤ V.looks view.old + (b + 2) }
-    ensures at_least_one { 0 < length (V.list view.old) → V.next (V.looks view.old) ≤ V.looks view.new }
+    ensures at_most { (b : ℕ) → length (V.list view.old) < 2 ^ b
+        → V.looks view.new ≤ V.looks view.old + (b + 2) }
+    ensures at_least_one { 0 < length (V.list view.old)
+        → V.next (V.looks view.old) ≤ V.looks view.new }
     ensures none { V.list view.old ≡ [] → V.looks view.new ≡ V.looks view.old }
 {
     let count = view.len();
     if count > 0 {
-        let Some(place) = place_at(view, parts, unix_time) else {
+        let Some(position) = position_at(view, zone, unix_time) else {
             return Err(TzError::OutOfRange);
         };
-        if place < count {
-            return Ok(type_before(view, parts, place));
+        if position < count {
+            return Ok(type_before(view, zone, position));
         }
     }
-    match after_table(parts, count == 0, unix_time).local_time_type {
+    match after_table(zone, count == 0, unix_time).local_time_type {
         Some(local_time_type) => Ok(local_time_type),
-        None => Err(fault_after(parts)),
+        None => Err(fault_after(zone)),
     }
 }

@@ -1,296 +1,253 @@
 //! The last change of a zone's clock before an instant.
 //!
-//! After the last transition the rule has the changes. Up to it a walk goes back from place to place, as the one of `following.rt` goes forward.
+//! After the last transition the rule has the changes. Up to it a walk goes back from position to
+//! position, as the one of `following.rt` goes forward.
 
-ghost use Rattle.std.specs.Prelude.{◌≡◌, ◌≢◌, ℕ, ◌<◌, ◌≤◌, ℤ, pos, negsuc, ◌+ℤ◌, ◌-ℤ◌, ◌≤ℤ◌, ◌<ℤ◌, [], length, Some, IfSome, MatchOption};
+ghost use Rattle.std.specs.Prelude.{◌≡◌, ℕ, ◌<◌, ◌≤◌, ℤ, pos, negsuc, ◌+ℤ◌, ◌-ℤ◌, ◌≤ℤ◌, ◌<ℤ◌};
+ghost use Rattle.std.specs.Prelude.{[], length, slice_get, Some, IfSome, MatchOption};
 ghost use Rattle.tz_rule.specs.LocalTimeType.{LocalTimeType};
-ghost use Rattle.tz_zone.specs.Clock.{IsLast, IsTypeOfLast};
+ghost use Rattle.tz_zone.specs.Clock.{IsTypeOfLast};
 ghost use Rattle.tz_zone.specs.ClockSegments.{IsReachedAt};
 ghost use Rattle.tz_zone.specs.Changes.{change_of, IsPreceding, HasNoPreceding};
-ghost use Rattle.tz_zone.specs.LeapTime.{IsTimeReached};
-ghost use Rattle.tz_zone.specs.Runs.{IsSeam, LiesAt, IsWalkedDown, IsRunStart, HasNoneAfterSeam};
-ghost use Rattle.tz_zone.specs.Table.{Transition};
-ghost use Rattle.tz_zone.specs.ValidZone.{AreLeapSeconds, IsSoundTable};
-ghost use Rattle.tz_zone.specs.ZoneSeen.{zone_seen};
+ghost use Rattle.tz_zone.specs.LeapTime.{IsLeapTimeRefused, IsWideEffect};
+ghost use Rattle.tz_zone.specs.Runs.{LiesAt, IsWalkedDown, IsRunStart, HasNoneAfterSeam};
+ghost use Rattle.tz_zone.specs.Table.{Transition, without_transitions};
+ghost use Rattle.tz_zone.specs.ZoneOfData.{zone_of_data};
 
-use super::change::{Change, change_at};
-use super::likely_place::{is_after_all, place_at_near};
-use super::types_at_places::{type_at, type_before, type_of};
-use crate::leap::LeapSecond;
-use crate::leap::from_leap_time::effect_of_reached;
-use crate::leap::to_leap_time::last_instant_up_to;
-use crate::table::{OtherParts, Transition, Uncounted};
+use super::lookup::{type_at, type_before, type_of};
+use super::position::position_in;
+use super::segment::{Change, change_at};
+use crate::leap::leap_time::{effect_of_reached, last_instant_up_to, leap_time};
+use crate::table::Uncounted;
+use crate::timezone::zone_data::ZoneData;
 use tz_rule::inner::change_up_to;
 use tz_rule::timezone::LocalTimeType;
 
-/// The last change of a rule up to an instant: that of a zone with the rule and without transitions.
+/// The last change of a rule up to an instant: that of a zone with the rule and without
+/// transitions.
 #[inline(always)]
-fn preceding_by_rule<'a>(parts: OtherParts<'a>, last: i64) -> Option<Change<'a>>
-    requires { IsSoundTable (zone_seen [] parts) }
-    ensures { MatchOption result (HasNoPreceding (zone_seen [] parts.entry) (last +ℤ pos 1)) (λ c. IsPreceding (zone_seen [] parts.entry) (last +ℤ pos 1) (change_of c)) }
+fn preceding_by_rule<'a>(zone: &ZoneData<'a>, last: i64) -> Option<Change<'a>>
+    ensures { MatchOption result
+        (HasNoPreceding (without_transitions (zone_of_data zone.now)) (last +ℤ pos 1))
+        (λ c. IsPreceding (without_transitions (zone_of_data zone.now)) (last +ℤ pos 1)
+        (change_of c)) }
 {
-    let rule = parts.extra_rule.lent()?;
+    let rule = zone.rule()?;
     let change = change_up_to(rule, last)?;
     Some(Change::new(change.unix_time, change.before, change.after))
 }
 
-/// The first place, from 1 on, of the run of `place`: the transitions from the one before it up to `place` are to one type, `local_time_type`.
+/// The first position, from 1 on, of the run of `position`: the transitions from the one before it
+/// up to `position` are to one type, `local_time_type`.
 #[inline(always)]
-fn start_of_run(
-    transitions: &[Transition],
-    parts: OtherParts<'_>,
-    place: usize,
-    local_time_type: &LocalTimeType,
-) -> usize
-    requires sound { IsSoundTable (zone_seen transitions.now parts) }
-    requires place { (0 < place) × (place ≤ length transitions.now) }
-    requires is_type { IsTypeOfLast (zone_seen transitions.now parts) place local_time_type.now }
-    ensures within { (0 < result) × (result ≤ place) }
-    ensures types { (i : ℕ) → result ≤ i → i ≤ place → IsTypeOfLast (zone_seen transitions.now parts.entry) i local_time_type.now }
+fn start_of_run(zone: &ZoneData<'_>, position: usize, local_time_type: &LocalTimeType) -> usize
+    requires position { (0 < position) × (position ≤ length (zone_of_data zone.now).transitions) }
+    requires is_type { IsTypeOfLast (zone_of_data zone.now) position local_time_type.now }
+    ensures within { (0 < result) × (result ≤ position) }
+    ensures types { (i : ℕ) → result ≤ i → i ≤ position
+        → IsTypeOfLast (zone_of_data zone.now) i local_time_type.now }
 {
-    let mut start = place;
-    while start > 1 && type_of(parts, transitions[start - 2]).is_same(local_time_type) {
+    let transitions = zone.transitions;
+    let mut start = position;
+    while start > 1 && type_of(zone, transitions[start - 2]).is_same(local_time_type) {
         start -= 1;
     }
     start
 }
 
-/// The last instant before another one that has a leap time, and the place at which it lies. In a zone without transitions it is the one right
-/// before.
+/// The last instant before another one that has a leap time, and the position at which it lies.
 #[inline(always)]
-fn last_place(
-    transitions: &[Transition],
-    parts: OtherParts<'_>,
-    unix_time: i64,
-    likely: Option<usize>,
-) -> Option<(i64, usize)>
-    requires sound { IsSoundTable (zone_seen transitions.now parts) }
+fn last_position(zone: &ZoneData<'_>, unix_time: i64) -> Option<(i64, usize)>
+    requires at_least_one { 0 < length (zone_of_data zone.now).transitions }
     requires not_least { negsuc 9223372036854775807 <ℤ unix_time }
-    ensures { MatchOption result (HasNoPreceding (zone_seen transitions.now parts.entry) unix_time)
-        (λ found. IsWalkedDown (zone_seen transitions.now parts.entry) unix_time found.0 found.1) }
+    ensures { MatchOption result (HasNoPreceding (zone_of_data zone.now) unix_time)
+        (λ found. IsWalkedDown (zone_of_data zone.now) unix_time found.0 found.1) }
 {
-    let before = unix_time - 1;
-    if transitions.is_empty() {
-        return Some((before, 0));
-    }
-    let last = last_instant_up_to(parts.leap_seconds, before);
-    let place = place_at_near(transitions, parts, last, likely)?;
-    Some((last, place))
+    let last = last_instant_up_to(zone.leap_seconds, unix_time - 1);
+    let position = position_in(zone, last)?;
+    Some((last, position))
 }
 
-/// The seam: the instant at which the last transition takes effect, or the least one where there are none. From there on the rule has the types.
+/// The last change of the clock up to an instant that lies at a position, if it comes after all
+/// transitions. From the effect of the last transition on, the seam, the rule has the types.
 #[inline(always)]
-fn seam(transitions: &[Transition], leap_seconds: &[LeapSecond]) -> i64
-    requires leaps { AreLeapSeconds leap_seconds.now }
-    requires reached { (last : Transition) → IsLast transitions.now last → (u : ℤ) × (u ≤ℤ pos 9223372036854775807) × IsTimeReached leap_seconds.now last.unix_leap_time u }
-    ensures { IsSeam transitions.now leap_seconds.now result }
+fn preceding_after_table<'a>(zone: &ZoneData<'a>, position: usize, last: i64) -> Option<Change<'a>>
+    requires at_least_one { 0 < length (zone_of_data zone.now).transitions }
+    requires at { LiesAt (zone_of_data zone.now) last position }
+    ensures { MatchOption result
+        (HasNoneAfterSeam (zone_of_data zone.now) position (last +ℤ pos 1))
+        (λ c. IsPreceding (zone_of_data zone.now) (last +ℤ pos 1) (change_of c)) }
 {
-    let count = transitions.len();
-    if count == 0 {
-        return i64::MIN;
-    }
-    effect_of_reached(leap_seconds, transitions[count - 1].unix_leap_time())
-}
-
-/// The last change of the clock up to an instant that lies at a place, if it comes after all transitions.
-#[inline(always)]
-fn preceding_after_table<'a>(
-    transitions: &[Transition],
-    parts: OtherParts<'a>,
-    place: usize,
-    last: i64,
-) -> Option<Change<'a>>
-    requires sound { IsSoundTable (zone_seen transitions.now parts) }
-    requires within { place ≤ length transitions.now }
-    requires at { transitions.now ≢ [] → IsReachedAt (zone_seen transitions.now parts) last place }
-    ensures { MatchOption result (HasNoneAfterSeam (zone_seen transitions.now parts.entry) place (last +ℤ pos 1))
-        (λ c. IsPreceding (zone_seen transitions.now parts.entry) (last +ℤ pos 1) (change_of c)) }
-{
-    if place < transitions.len() {
+    let transitions = zone.transitions;
+    if position < transitions.len() {
         return None;
     }
-    let change = preceding_by_rule(parts, last)?;
-    if change.unix_time() <= seam(transitions, parts.leap_seconds) {
+    let change = preceding_by_rule(zone, last)?;
+    let seam = effect_of_reached(
+        zone.leap_seconds,
+        transitions[position - 1].unix_leap_time(),
+    );
+    if change.unix_time() <= seam {
         return None;
     }
     Some(change)
 }
 
-/// The first place, from 1 on, of the run of a place. The place after all transitions is a run of its own: from there on the rule has the types.
+/// The first position, from 1 on, of the run of a position. The position after all transitions is a
+/// run of its own: from there on the rule has the types.
 #[inline(always)]
-fn first_of_run(transitions: &[Transition], parts: OtherParts<'_>, place: usize) -> usize
-    requires sound { IsSoundTable (zone_seen transitions.now parts) }
-    requires place { (0 < place) × (place ≤ length transitions.now) }
-    ensures within { (0 < result) × (result ≤ place) }
-    ensures types { place < length transitions.now → (t : LocalTimeType) × ((i : ℕ) → result ≤ i → i ≤ place → IsTypeOfLast (zone_seen transitions.now parts.entry) i t) }
-    ensures all { place ≡ length transitions.now → result ≡ place }
+fn first_of_run(zone: &ZoneData<'_>, position: usize) -> usize
+    requires { (0 < position) × (position ≤ length (zone_of_data zone.now).transitions) }
+    ensures within { (0 < result) × (result ≤ position) }
+    ensures types { position < length (zone_of_data zone.now).transitions
+        → (t : LocalTimeType) × ((i : ℕ) → result ≤ i → i ≤ position
+        → IsTypeOfLast (zone_of_data zone.now) i t) }
+    ensures all { position ≡ length (zone_of_data zone.now).transitions → result ≡ position }
 {
-    if place == transitions.len() {
-        return place;
+    let transitions = zone.transitions;
+    if position == transitions.len() {
+        return position;
     }
-    let local_time_type = type_before(&mut Uncounted::new(transitions), parts, place);
-    start_of_run(transitions, parts, place, local_time_type)
+    let local_time_type = type_before(&mut Uncounted::new(transitions), zone, position);
+    start_of_run(zone, position, local_time_type)
 }
 
-/// The first place of the run of a place, and the instant at which the transition before it takes effect.
+/// The first position of the run of a position, and the instant at which the transition before it
+/// takes effect.
 #[inline(always)]
-fn run_start(transitions: &[Transition], parts: OtherParts<'_>, place: usize) -> (usize, i64)
-    requires sound { IsSoundTable (zone_seen transitions.now parts) }
-    requires place { (0 < place) × (place ≤ length transitions.now) }
-    requires at { (w : ℤ) × (w ≤ℤ pos 9223372036854775807) × IsReachedAt (zone_seen transitions.now parts) w place }
-    ensures { IsRunStart (zone_seen transitions.now parts.entry) place result.0 result.1 }
+fn run_start(zone: &ZoneData<'_>, position: usize) -> (usize, i64)
+    requires position { (0 < position) × (position ≤ length (zone_of_data zone.now).transitions) }
+    requires at { (w : ℤ) × (w ≤ℤ pos 9223372036854775807)
+        × IsReachedAt (zone_of_data zone.now) w position }
+    ensures { IsRunStart (zone_of_data zone.now) position result.0 result.1 }
 {
-    let start = first_of_run(transitions, parts, place);
-    let effect = effect_of_reached(parts.leap_seconds, transitions[start - 1].unix_leap_time());
+    let transitions = zone.transitions;
+    let start = first_of_run(zone, position);
+    let effect = effect_of_reached(zone.leap_seconds, transitions[start - 1].unix_leap_time());
     (start, effect)
 }
 
-/// The change at the last transition before an instant, if the instant a second earlier lies at a place, there are no leap seconds, that transition
-/// is from another type, and it is not the last one of all. Mostly it is so, and then nothing is walked.
+/// The change at the last transition before an instant, and the position before it, if the instant
+/// a second earlier lies at a position, there are no leap seconds, that transition is from another
+/// type, and it is not the last one of all. Mostly it is so, and then nothing is walked.
 #[inline(always)]
 fn change_at_last<'a>(
-    transitions: &[Transition],
-    parts: OtherParts<'a>,
+    zone: &ZoneData<'a>,
     unix_time: i64,
-    place: usize,
-) -> Option<Change<'a>>
-    requires sound { IsSoundTable (zone_seen transitions.now parts) }
-    requires at { LiesAt (zone_seen transitions.now parts) (unix_time -ℤ pos 1) place }
-    ensures change { IfSome result (λ c. IsPreceding (zone_seen transitions.now parts.entry) unix_time (change_of c)) }
-    ensures place { IfSome result (λ c. 1 ≤ place) }
+    position: usize,
+) -> Option<(Change<'a>, usize)>
+    requires { LiesAt (zone_of_data zone.now) (unix_time -ℤ pos 1) position }
+    ensures { IfSome result
+        (λ found. IsPreceding (zone_of_data zone.now) unix_time (change_of found.0)) }
 {
-    if !parts.leap_seconds.is_empty() || place == 0 || transitions.len() <= place {
+    let transitions = zone.transitions;
+    if !zone.leap_seconds.is_empty() || position == 0 || transitions.len() <= position {
         return None;
     }
-    let last = transitions[place - 1];
+    let last = transitions[position - 1];
     let time = last.unix_leap_time();
     if time == i64::MIN {
         return None;
     }
-    let before = type_before(&mut Uncounted::new(transitions), parts, place - 1);
-    let after = type_of(parts, last);
-    change_at(time, Some(before), Some(after))
+    let before = type_before(&mut Uncounted::new(transitions), zone, position - 1);
+    let after = type_of(zone, last);
+    let change = change_at(time, Some(before), Some(after))?;
+    Some((change, position - 1))
 }
 
-/// The change at the transition before a place, if the one after the place takes effect at the instant. Then the instant a second earlier lies there.
+/// The change at the transition before a position, and the position before it, if the one after the
+/// position takes effect at the instant. Then the instant a second earlier lies there.
 #[inline(always)]
 pub fn change_before_next<'a>(
-    transitions: &[Transition],
-    parts: OtherParts<'a>,
+    zone: &ZoneData<'a>,
     unix_time: i64,
-    place: usize,
-) -> Option<Change<'a>>
-    requires { IsSoundTable (zone_seen transitions.now parts) }
-    ensures change { IfSome result (λ c. IsPreceding (zone_seen transitions.now parts.entry) unix_time (change_of c)) }
-    ensures place { IfSome result (λ c. 1 ≤ place) }
+    position: usize,
+) -> Option<(Change<'a>, usize)>
+    ensures { IfSome result
+        (λ found. IsPreceding (zone_of_data zone.now) unix_time (change_of found.0)) }
 {
-    if place == 0 || transitions.len() <= place || !parts.leap_seconds.is_empty() {
+    let transitions = zone.transitions;
+    if position == 0 || transitions.len() <= position || !zone.leap_seconds.is_empty() {
         return None;
     }
-    if transitions[place].unix_leap_time() != unix_time {
+    if transitions[position].unix_leap_time() != unix_time {
         return None;
     }
-    change_at_last(transitions, parts, unix_time, place)
+    change_at_last(zone, unix_time, position)
 }
 
-/// The last change of the clock before an instant, and the place before it. After `last`, which lies at `place`, there is none.
+/// The position at which the instant before the effect of a transition lies, if it has a leap time.
+/// It is not right before the transition where an earlier one takes effect at the same instant.
+#[inline(always)]
+fn position_before_effect(zone: &ZoneData<'_>, index: usize, effect: i64) -> Option<usize>
+    requires inside { index < length (zone_of_data zone.now).transitions }
+    requires not_least { negsuc 9223372036854775807 <ℤ effect }
+    requires transition { (change : Transition)
+        × (slice_get (zone_of_data zone.now).transitions index ≡ Some change)
+        × IsWideEffect (zone_of_data zone.now).leap_seconds change.unix_leap_time effect }
+    ensures { MatchOption result
+        (IsLeapTimeRefused (zone_of_data zone.now).leap_seconds (effect -ℤ pos 1))
+        (λ position. LiesAt (zone_of_data zone.now) (effect -ℤ pos 1) position) }
+{
+    let transitions = zone.transitions;
+    let unix_leap_time = leap_time(zone.leap_seconds, effect - 1)?;
+    let mut position = index;
+    while position > 0 && unix_leap_time < transitions[position - 1].unix_leap_time() {
+        position -= 1;
+    }
+    Some(position)
+}
+
+/// The last change of the clock before an instant, and the position before it. After `last`, which
+/// lies at `position`, there is none.
 #[inline(never)]
 fn preceding_from<'a>(
-    transitions: &[Transition],
-    parts: OtherParts<'a>,
+    zone: &ZoneData<'a>,
     unix_time: i64,
     last: i64,
-    place: usize,
+    position: usize,
 ) -> Option<(Change<'a>, usize)>
-    requires sound { IsSoundTable (zone_seen transitions.now parts) }
-    requires walked { IsWalkedDown (zone_seen transitions.now parts) unix_time last place }
-    ensures { MatchOption result (HasNoPreceding (zone_seen transitions.now parts.entry) unix_time)
-        (λ found. IsPreceding (zone_seen transitions.now parts.entry) unix_time (change_of found.0)) }
+    requires at_least_one { 0 < length (zone_of_data zone.now).transitions }
+    requires walked { IsWalkedDown (zone_of_data zone.now) unix_time last position }
+    ensures { MatchOption result (HasNoPreceding (zone_of_data zone.now) unix_time)
+        (λ found. IsPreceding (zone_of_data zone.now) unix_time (change_of found.0)) }
 {
-    if let Some(change) = preceding_after_table(transitions, parts, place, last) {
-        return Some((change, place));
+    if let Some(change) = preceding_after_table(zone, position, last) {
+        return Some((change, position));
     }
-    let mut place = place;
-    while place > 0 {
-        let (start, effect) = run_start(transitions, parts, place);
+    let mut position = position;
+    while position > 0 {
+        let (start, effect) = run_start(zone, position);
         if effect == i64::MIN {
             return None;
         }
-        let earlier = place_at_near(transitions, parts, effect - 1, Some(start - 1))?;
-        let before = type_before(&mut Uncounted::new(transitions), parts, earlier);
-        let after = type_at(transitions, parts, start, effect);
+        let earlier = position_before_effect(zone, start - 1, effect)?;
+        let before = type_before(&mut Uncounted::new(zone.transitions), zone, earlier);
+        let after = type_at(zone, start, effect);
         if let Some(change) = change_at(effect, Some(before), after) {
             return Some((change, earlier));
         }
-        place = earlier;
+        position = earlier;
     }
     None
 }
 
-/// The last change of the clock before an instant, and the place before it.
-///
-/// A place at which the instant a second earlier is likely to lie is tried first: a wrong one costs time and no more.
+/// The last change of the clock before an instant, and the position before it.
 #[inline(always)]
-pub fn find_preceding<'a>(
-    transitions: &[Transition],
-    parts: OtherParts<'a>,
-    unix_time: i64,
-    likely: Option<usize>,
-) -> Option<(Change<'a>, usize)>
-    requires { IsSoundTable (zone_seen transitions.now parts) }
-    ensures { MatchOption result (HasNoPreceding (zone_seen transitions.now parts.entry) unix_time)
-        (λ found. IsPreceding (zone_seen transitions.now parts.entry) unix_time (change_of found.0)) }
+pub fn find_preceding<'a>(zone: &ZoneData<'a>, unix_time: i64) -> Option<(Change<'a>, usize)>
+    ensures { MatchOption result (HasNoPreceding (zone_of_data zone.now) unix_time)
+        (λ found. IsPreceding (zone_of_data zone.now) unix_time (change_of found.0)) }
 {
     if unix_time == i64::MIN {
         return None;
     }
-    if transitions.is_empty() {
-        let change = preceding_by_rule(parts, unix_time - 1)?;
+    if zone.transitions.is_empty() {
+        let change = preceding_by_rule(zone, unix_time - 1)?;
         return Some((change, 0));
     }
-    let (last, place) = last_place(transitions, parts, unix_time, likely)?;
-    if let Some(change) = change_at_last(transitions, parts, last + 1, place) {
-        return Some((change, place - 1));
+    let (last, position) = last_position(zone, unix_time)?;
+    if let Some(found) = change_at_last(zone, last + 1, position) {
+        return Some(found);
     }
-    preceding_from(transitions, parts, unix_time, last, place)
-}
-
-/// What `find_preceding` returns if the place is tried first. Not inlined, so that a step by the rule stays small.
-#[inline(never)]
-fn preceding_anew<'a>(
-    transitions: &[Transition],
-    parts: OtherParts<'a>,
-    unix_time: i64,
-    place: usize,
-) -> Option<(Change<'a>, usize)>
-    requires { IsSoundTable (zone_seen transitions.now parts) }
-    ensures { MatchOption result (HasNoPreceding (zone_seen transitions.now parts.entry) unix_time)
-        (λ found. IsPreceding (zone_seen transitions.now parts.entry) unix_time (change_of found.0)) }
-{
-    find_preceding(transitions, parts, unix_time, Some(place))
-}
-
-/// The last change of the clock before an instant, and the place before it. If the given place is that after all transitions, the rule is asked
-/// first. A wrong place costs time and no more.
-#[inline(always)]
-pub fn preceding_near<'a>(
-    transitions: &[Transition],
-    parts: OtherParts<'a>,
-    unix_time: i64,
-    place: usize,
-) -> Option<(Change<'a>, usize)>
-    requires { IsSoundTable (zone_seen transitions.now parts) }
-    ensures { MatchOption result (HasNoPreceding (zone_seen transitions.now parts.entry) unix_time)
-        (λ found. IsPreceding (zone_seen transitions.now parts.entry) unix_time (change_of found.0)) }
-{
-    if unix_time == i64::MIN {
-        return None;
-    }
-    let last = unix_time - 1;
-    if place == transitions.len() && is_after_all(transitions, parts, last) {
-        if let Some(change) = preceding_after_table(transitions, parts, place, last) {
-            return Some((change, place));
-        }
-    }
-    preceding_anew(transitions, parts, unix_time, place)
+    preceding_from(zone, unix_time, last, position)
 }

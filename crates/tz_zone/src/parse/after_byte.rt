@@ -1,10 +1,10 @@
-//! A byte at the front of a text: used by the readers of TZ strings, and by those of date times and query lines in the crates above.
+//! A byte at the front of a text: used by the readers of TZ strings, and by those of date times and
+//! query lines in the crates above.
 
 ghost use Rattle.std.specs.Prelude.{◌≡◌, ◌∷◌, MatchOption};
 ghost use Rattle.tz_zone.specs.TzText.{Begins};
 
 /// The bytes after a byte, if they begin with it.
-#[inline(always)]
 pub fn after_byte(text: &[u8], byte: u8) -> Option<&[u8]>
     ensures { MatchOption result (¬ Begins byte text.now) (λ rest. text.now ≡ byte ∷ rest.now) }
 {

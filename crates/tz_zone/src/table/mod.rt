@@ -1,9 +1,7 @@
-//! The table of a zone: transitions, a view that reads transitions one at a time, and what a zone has beside them.
+//! The table of a zone: transitions, and a view that reads them one at a time.
 
-mod other_parts;
 mod transition;
 mod transition_view;
 
-pub use other_parts::{KeptRule, OtherParts, lent, other_parts_of};
 pub use transition::Transition;
 pub use transition_view::{Counted, Transitions, Uncounted};

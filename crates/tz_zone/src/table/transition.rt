@@ -17,15 +17,27 @@ impl Model for Transition {
 
     ghost Value = { Transition };
 
-    ghost view = { λ t. record { unix_leap_time = t.unix_leap_time; type_index = t.local_time_type_index } };
+    ghost view = { λ t. record {
+      unix_leap_time = t.unix_leap_time;
+      type_index =
+          t.local_time_type_index;
+    } };
 
-    ghost inverse = { λ t. record { unix_leap_time = t.unix_leap_time; local_time_type_index = t.type_index } };
+    ghost inverse = { λ t. record {
+      unix_leap_time = t.unix_leap_time;
+      local_time_type_index =
+          t.type_index;
+    } };
 }
 
 impl Transition {
     /// The transition at this leap time to the type with this number.
     pub fn new(unix_leap_time: i64, local_time_type_index: usize) -> Self
-        ensures { result ≡ record { unix_leap_time = unix_leap_time; type_index = local_time_type_index } }
+        ensures { result ≡ record {
+          unix_leap_time = unix_leap_time;
+          type_index =
+              local_time_type_index;
+        } }
     {
         Transition {
             unix_leap_time,

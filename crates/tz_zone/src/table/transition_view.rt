@@ -1,4 +1,5 @@
-//! A zone's transitions as a function may read them: one at a time. Each read is a look, which may be counted.
+//! A zone's transitions as a function may read them: one at a time. Each read is a look, which may
+//! be counted.
 
 ghost use Rattle.std.specs.Prelude.{◌≡◌, ℕ, ◌+◌, ◌<◌, ◌≤◌, length, slice_get, Some, IsFalse, refl};
 
@@ -6,7 +7,8 @@ use super::transition::Transition;
 
 /// A view of transitions.
 ///
-/// A function that is generic over its view can take looks and nothing else: it has no slice, and can neither copy the view nor set its count back.
+/// A function that is generic over its view can take looks and nothing else: it has no slice, and
+/// can neither copy the view nor set its count back.
 pub trait Transitions {
     ghost use Rattle.std.specs.Prelude.{List};
     ghost use Rattle.tz_zone.specs.Table.{Transition};
@@ -24,10 +26,10 @@ pub trait Transitions {
     fn len(&self) -> usize
         ensures { result ≡ length (list self.now) };
 
-    /// A look: the transition at a place.
-    fn look(&mut self, place: usize) -> Transition
-        requires { place < length (list self.old) }
-        ensures value { slice_get (list self.old) place ≡ Some result }
+    /// A look: the transition at an index.
+    fn look(&mut self, index: usize) -> Transition
+        requires { index < length (list self.old) }
+        ensures value { slice_get (list self.old) index ≡ Some result }
         ensures same { list self.new ≡ list self.old }
         ensures counted { looks self.new ≡ next (looks self.old) };
 
@@ -82,9 +84,9 @@ impl Transitions for Counted<'_> {
         self.transitions.len()
     }
 
-    fn look(&mut self, place: usize) -> Transition {
+    fn look(&mut self, index: usize) -> Transition {
         self.looks = self.looks.saturating_add(1);
-        self.transitions[place]
+        self.transitions[index]
     }
 
     fn is_counted(&self) -> bool {
@@ -124,8 +126,8 @@ impl Transitions for Uncounted<'_> {
         self.transitions.len()
     }
 
-    fn look(&mut self, place: usize) -> Transition {
-        self.transitions[place]
+    fn look(&mut self, index: usize) -> Transition {
+        self.transitions[index]
     }
 
     fn is_counted(&self) -> bool {

@@ -1,6 +1,7 @@
-//! Settings by which the time zone of a string is found.
+//! Names of time zones.
 
-ghost use Rattle.std.specs.Prelude.{◌≡◌, ◌⊎◌, ◌∷◌, map, Ok, Err, MatchOption, MatchResult, IsTrue, ◌↔◌, alloc_error};
+ghost use Rattle.std.specs.Prelude.{◌↔◌, IsTrue, All, codes, ◌≡◌, ◌⊎◌, ◌∷◌, map, Ok, Err, MatchOption, MatchResult, alloc_error};
+ghost use Rattle.tz_zone.specs.ZoneNames.{IsZoneNameByte, IsZoneNamePart, IsZoneName, SaysOfName};
 ghost use Rattle.tz_base.specs.declared.error.tz_error.Error.TheVariants.{Tz};
 ghost use Rattle.tz_base.specs.declared.error.tz_error.TzError.TheVariants.{Memory as NoMemory};
 ghost use Rattle.tz_zone.specs.Bytes.{colon};
@@ -9,11 +10,64 @@ ghost use Rattle.tz_zone.specs.TzText.{Begins};
 ghost use Rattle.tz_zone.specs.ZoneRef.{own_zone_of};
 
 use super::TimeZone;
-use super::zone_name::{is_zone_name, no_such_zone, not_a_name};
-use super::zone_of_tz_string::zone_of_tz_string;
+use super::zone_of_bytes::zone_of_tz_string;
+use anyhow::anyhow;
 use std::alloc::{Allocator, Global};
 use tz_base::error::parse::TzStringError;
 use tz_base::error::{Error, ReadFault, TzError};
+
+/// Whether a name may have the byte.
+fn is_name_byte(byte: u8) -> bool
+    ensures { IsTrue result ↔ IsZoneNameByte byte }
+{
+    matches!(byte, b'0'..=b'9' | b'A'..=b'Z' | b'a'..=b'z' | b'.' | b'_' | b'+' | b'-')
+}
+
+/// Whether all of the bytes may stand in a name.
+fn are_name_bytes(part: &[u8]) -> bool
+    ensures { IsTrue result ↔ All IsZoneNameByte part.now }
+{
+    for byte in part {
+        if !is_name_byte(*byte) {
+            return false;
+        }
+    }
+    true
+}
+
+/// Whether a name may have the part.
+fn is_name_part(part: &[u8]) -> bool
+    ensures { IsTrue result ↔ IsZoneNamePart part.now }
+{
+    !matches!(part, [] | [b'.'] | [b'.', b'.']) && are_name_bytes(part)
+}
+
+/// Whether the text is a name of the form that [`TimeZone::named`](super::TimeZone::named) looks
+/// for. (tz database, Timezone identifiers)
+///
+/// A name has one part or several, with `/` between them. A part is one or more ASCII letters,
+/// digits, `.`, `_`, `+` and `-`, and neither `.` nor `..`.
+pub fn is_zone_name(name: &str) -> bool
+    ensures { IsTrue result ↔ IsZoneName name.now }
+{
+    name.as_bytes()
+        .split(|byte| *byte == b'/')
+        .all(is_name_part)
+}
+
+/// The error of a text that is no name.
+pub(super) fn not_a_name(text: &str) -> anyhow::Error
+    ensures { SaysOfName (codes "not a time zone name: ") text.now result }
+{
+    anyhow!("not a time zone name: {text}")
+}
+
+/// The error of a name that no zone has.
+pub(super) fn no_such_zone(name: &str) -> anyhow::Error
+    ensures { SaysOfName (codes "no time zone has the name ") name.now result }
+{
+    anyhow!("no time zone has the name {name}")
+}
 
 /// The directories in which systems keep their time zone files.
 pub const DEFAULT_DIRECTORIES: &[&str] = &[
@@ -40,9 +94,9 @@ fn after_colon(text: &str) -> Option<&str>
 }
 
 /// The zone of the bytes of a file.
-#[inline(never)]
 fn zone_of_bytes<A: Allocator + Copy>(alloc: A, bytes: &[u8]) -> Result<TimeZone<A>, Error>
-    ensures { MatchResult result (λ zone. IsFileAnswer bytes.now (Ok (own_zone_of zone))) (λ e. (e ≡ Tz (NoMemory alloc_error)) ⊎ IsFileAnswer bytes.now (Err e)) }
+    ensures { MatchResult result (λ zone. IsFileAnswer bytes.now (Ok (own_zone_of zone)))
+        (λ e. (e ≡ Tz (NoMemory alloc_error)) ⊎ IsFileAnswer bytes.now (Err e)) }
 {
     match TimeZone::from_tz_data(alloc, bytes) {
         Ok(zone) => Ok(zone),
@@ -55,7 +109,8 @@ fn zone_of_found<A: Allocator + Copy>(
     alloc: A,
     found: Result<Vec<u8>, ReadFault>,
 ) -> Result<TimeZone<A>, Error>
-    ensures { MatchResult result (λ zone. Opens found (Ok (own_zone_of zone))) (λ e. (e ≡ Tz (NoMemory alloc_error)) ⊎ Opens found (Err e)) }
+    ensures { MatchResult result (λ zone. Opens found (Ok (own_zone_of zone)))
+        (λ e. (e ≡ Tz (NoMemory alloc_error)) ⊎ Opens found (Err e)) }
 {
     match found {
         Ok(bytes) => zone_of_bytes(alloc, &bytes),
@@ -66,8 +121,8 @@ fn zone_of_found<A: Allocator + Copy>(
 
 /// How a time zone is found: the directories of files, and the function that reads one.
 ///
-/// The function returns the bytes of the file at a path. It is called with each path in turn until it returns bytes or
-/// `ReadFault::Memory`.
+/// The function returns the bytes of the file at a path. It is called with each path in turn until
+/// it returns bytes or `ReadFault::Memory`.
 #[derive(Drop)]
 pub struct TimeZoneSettings<'a, F> {
     pub(super) directories: &'a [&'a str],
@@ -98,30 +153,34 @@ impl<'a, F: Fn(&str) -> Result<Vec<u8>, ReadFault>> TimeZoneSettings<'a, F> {
     ///
     /// - [`Error::Io`] with the reader's error if that file cannot be read;
     /// - [`Error::Tz`] with an error of [`TimeZone::from_tz_data`] if the file is not a TZif file;
-    /// - [`Error::Tz`] of [`TzError::Memory`] if an allocation fails, in this call or in the reader.
-    #[inline(never)]
+    /// - [`Error::Tz`] of [`TzError::Memory`] if an allocation fails, in this call or in the
+    ///   reader.
     pub fn parse_local<A: Allocator + Copy>(&self, alloc: A) -> Result<TimeZone<A>, Error>
         requires { F.IsAlwaysCallable (reader_of self.now) }
         ensures { MatchResult result
             (λ zone. IsLocalAnswer (FnReturnsAt F.Fn (reader_of self.now)) (Ok (own_zone_of zone)))
-            (λ e. (e ≡ Tz (NoMemory alloc_error)) ⊎ IsLocalAnswer (FnReturnsAt F.Fn (reader_of self.now)) (Err e)) }
+            (λ e. (e ≡ Tz (NoMemory alloc_error))
+            ⊎ IsLocalAnswer (FnReturnsAt F.Fn (reader_of self.now)) (Err e)) }
     {
         zone_of_found(alloc, self.read(LOCAL_TIME_FILE))
     }
 
     /// The time zone of a string. (POSIX.1-2017, Base Definitions, 8.3)
     ///
-    /// `localtime` is the machine's local time. What follows a `:` names a file. Any other string names a file too, or is a TZ string if no such file
-    /// can be read. A name that begins with `/` is the path of the file, and any other name is that of a file in one of the directories.
+    /// `localtime` is the machine's local time. What follows a `:` names a file. Any other string
+    /// names a file too, or is a TZ string if no such file can be read. A name that begins with `/`
+    /// is the path of the file, and any other name is that of a file in one of the directories.
     ///
     /// # Errors
     ///
     /// - [`Error::Tz`] of [`TzError::TzString`] with `Empty` if the string is empty;
     /// - [`Error::Io`] if the file of `localtime` or of a name after `:` cannot be read;
-    /// - [`Error::Tz`] of [`TzError::TzString`], [`TzError::LocalTimeType`] or [`TzError::TransitionRule`] if any other string names no file that can
-    ///   be read, and is not a TZ string or does not make a rule;
+    /// - [`Error::Tz`] of [`TzError::TzString`], [`TzError::LocalTimeType`] or
+    ///   [`TzError::TransitionRule`] if any other string names no file that can be read, and is not
+    ///   a TZ string or does not make a rule;
     /// - [`Error::Tz`] with an error of [`TimeZone::from_tz_data`] if the file is not a TZif file;
-    /// - [`Error::Tz`] of [`TzError::Memory`] if an allocation fails, in this call or in the reader.
+    /// - [`Error::Tz`] of [`TzError::Memory`] if an allocation fails, in this call or in the
+    ///   reader.
     pub fn parse_posix_tz<A: Allocator + Copy>(
         &self,
         alloc: A,
@@ -129,8 +188,11 @@ impl<'a, F: Fn(&str) -> Result<Vec<u8>, ReadFault>> TimeZoneSettings<'a, F> {
     ) -> Result<TimeZone<A>, Error>
         requires { F.IsAlwaysCallable (reader_of self.now) }
         ensures { MatchResult result
-            (λ zone. IsSettingsAnswer (FnReturnsAt F.Fn (reader_of self.now)) (directories_of self.now) tz_string.now (Ok (own_zone_of zone)))
-            (λ e. (e ≡ Tz (NoMemory alloc_error)) ⊎ IsSettingsAnswer (FnReturnsAt F.Fn (reader_of self.now)) (directories_of self.now) tz_string.now (Err e)) }
+            (λ zone. IsSettingsAnswer (FnReturnsAt F.Fn (reader_of self.now))
+            (directories_of self.now) tz_string.now (Ok (own_zone_of zone)))
+            (λ e. (e ≡ Tz (NoMemory alloc_error))
+            ⊎ IsSettingsAnswer (FnReturnsAt F.Fn (reader_of self.now)) (directories_of self.now)
+            tz_string.now (Err e)) }
     {
         if tz_string.is_empty() {
             return Err(Error::Tz(TzError::TzString(TzStringError::Empty)));
@@ -145,22 +207,28 @@ impl<'a, F: Fn(&str) -> Result<Vec<u8>, ReadFault>> TimeZoneSettings<'a, F> {
     }
 
     /// The zone of the file with the name.
-    #[inline(never)]
     fn parse_name<A: Allocator + Copy>(&self, alloc: A, name: &str) -> Result<TimeZone<A>, Error>
         requires { F.IsAlwaysCallable (reader_of self.now) }
         ensures { MatchResult result
-            (λ zone. IsNamedAnswer (FnReturnsAt F.Fn (reader_of self.now)) (directories_of self.now) name.now (Ok (own_zone_of zone)))
-            (λ e. (e ≡ Tz (NoMemory alloc_error)) ⊎ IsNamedAnswer (FnReturnsAt F.Fn (reader_of self.now)) (directories_of self.now) name.now (Err e)) }
+            (λ zone. IsNamedAnswer (FnReturnsAt F.Fn (reader_of self.now)) (directories_of self.now)
+            name.now (Ok (own_zone_of zone)))
+            (λ e. (e ≡ Tz (NoMemory alloc_error))
+            ⊎ IsNamedAnswer (FnReturnsAt F.Fn (reader_of self.now)) (directories_of self.now)
+            name.now (Err e)) }
     {
         zone_of_found(alloc, self.find(alloc, name))
     }
 
     /// The zone with the name. For a text that is no name nothing is read.
     fn zone_of_name<A: Allocator + Copy>(&self, alloc: A, name: &str) -> Result<TimeZone<A>, Error>
-        requires { IsCallableAt F.Fn (reader_of self.now) (IsPathOfName (directories_of self.now) name.now) }
+        requires { IsCallableAt F.Fn (reader_of self.now)
+            (IsPathOfName (directories_of self.now) name.now) }
         ensures { MatchResult result
-            (λ zone. IsZoneNameAnswer (FnReturnsAt F.Fn (reader_of self.now)) (directories_of self.now) name.now (Ok (own_zone_of zone)))
-            (λ e. (e ≡ Tz (NoMemory alloc_error)) ⊎ IsZoneNameAnswer (FnReturnsAt F.Fn (reader_of self.now)) (directories_of self.now) name.now (Err e)) }
+            (λ zone. IsZoneNameAnswer (FnReturnsAt F.Fn (reader_of self.now))
+            (directories_of self.now) name.now (Ok (own_zone_of zone)))
+            (λ e. (e ≡ Tz (NoMemory alloc_error))
+            ⊎ IsZoneNameAnswer (FnReturnsAt F.Fn (reader_of self.now)) (directories_of self.now)
+            name.now (Err e)) }
     {
         if !is_zone_name(name) {
             return Err(Error::Io(not_a_name(name)));
@@ -180,8 +248,11 @@ impl<'a, F: Fn(&str) -> Result<Vec<u8>, ReadFault>> TimeZoneSettings<'a, F> {
     ) -> Result<TimeZone<A>, Error>
         requires { F.IsAlwaysCallable (reader_of self.now) }
         ensures { MatchResult result
-            (λ zone. IsNamedOrTextAnswer (FnReturnsAt F.Fn (reader_of self.now)) (directories_of self.now) text.now (Ok (own_zone_of zone)))
-            (λ e. (e ≡ Tz (NoMemory alloc_error)) ⊎ IsNamedOrTextAnswer (FnReturnsAt F.Fn (reader_of self.now)) (directories_of self.now) text.now (Err e)) }
+            (λ zone. IsNamedOrTextAnswer (FnReturnsAt F.Fn (reader_of self.now))
+            (directories_of self.now) text.now (Ok (own_zone_of zone)))
+            (λ e. (e ≡ Tz (NoMemory alloc_error))
+            ⊎ IsNamedOrTextAnswer (FnReturnsAt F.Fn (reader_of self.now)) (directories_of self.now)
+            text.now (Err e)) }
     {
         let found = self.find_readable(alloc, text)?;
         match found {
@@ -196,7 +267,8 @@ impl<A: Allocator + Copy> TimeZone<A> {
     ghost use Rattle.tz_zone.specs.Settings.{IsLocalAnswer, IsSettingsAnswer};
     ghost use Rattle.tz_zone.specs.ZoneNames.{IsCallableAt, IsPathOfName, IsZoneNameAnswer};
 
-    /// The machine's local time zone: that of the TZif file at `/etc/localtime`, whose bytes the reader returns for this path.
+    /// The machine's local time zone: that of the TZif file at `/etc/localtime`, whose bytes the
+    /// reader returns for this path.
     ///
     /// With the reader of the machine's files:
     ///
@@ -216,22 +288,29 @@ impl<A: Allocator + Copy> TimeZone<A> {
         requires { F.IsAlwaysCallable reader }
         ensures { MatchResult result
             (λ zone. IsLocalAnswer (FnReturnsAt F.Fn reader) (Ok (own_zone_of zone)))
-            (λ e. (e ≡ Tz (NoMemory alloc_error)) ⊎ IsLocalAnswer (FnReturnsAt F.Fn reader) (Err e)) }
+            (λ e. (e ≡ Tz (NoMemory alloc_error))
+            ⊎ IsLocalAnswer (FnReturnsAt F.Fn reader) (Err e)) }
     {
         let settings = TimeZoneSettings::new(DEFAULT_DIRECTORIES, reader);
         settings.parse_local(alloc)
     }
 
-    /// The time zone of a string, with the [usual directories](DEFAULT_DIRECTORIES) and this function that reads a file. (POSIX.1-2017, Base
-    /// Definitions, 8.3)
+    /// The time zone of a string, with the [usual directories](DEFAULT_DIRECTORIES) and this
+    /// function that reads a file. (POSIX.1-2017, Base Definitions, 8.3)
     ///
-    /// `localtime` is the machine's local time. What follows a `:` names a file. Any other string names a file too, or is a TZ string if no such file
-    /// can be read. A name that begins with `/` is the path of the file, and any other name is that of a file in one of the directories.
+    /// `localtime` is the machine's local time. What follows a `:` names a file. Any other string
+    /// names a file too, or is a TZ string if no such file can be read. A name that begins with `/`
+    /// is the path of the file, and any other name is that of a file in one of the directories.
     ///
-    /// The zone of a name such as `Europe/Paris`, or of a TZ string such as `CET-1CEST,M3.5.0,M10.5.0/3`:
+    /// The zone of a name such as `Europe/Paris`, or of a TZ string such as
+    /// `CET-1CEST,M3.5.0,M10.5.0/3`:
     ///
     /// ```rust
-    /// pub fn zone_of_setting<R: Files>(rt: &R, alloc: Global, setting: &str) -> Result<TimeZone, Error> {
+    /// pub fn zone_of_setting<R: Files>(
+    ///     rt: &R,
+    ///     alloc: Global,
+    ///     setting: &str,
+    /// ) -> Result<TimeZone, Error> {
     ///     let reader = |path: &str| timezone::read_file(rt, alloc, path);
     ///     TimeZone::from_posix_tz(alloc, reader, setting)
     /// }
@@ -247,19 +326,26 @@ impl<A: Allocator + Copy> TimeZone<A> {
     ) -> Result<Self, Error>
         requires { F.IsAlwaysCallable reader }
         ensures { MatchResult result
-            (λ zone. IsSettingsAnswer (FnReturnsAt F.Fn reader) (map (λ directory. directory.now) DEFAULT_DIRECTORIES.now) tz_string.now (Ok (own_zone_of zone)))
-            (λ e. (e ≡ Tz (NoMemory alloc_error)) ⊎ IsSettingsAnswer (FnReturnsAt F.Fn reader) (map (λ directory. directory.now) DEFAULT_DIRECTORIES.now) tz_string.now (Err e)) }
+            (λ zone. IsSettingsAnswer (FnReturnsAt F.Fn reader)
+            (map (λ directory. directory.now) DEFAULT_DIRECTORIES.now) tz_string.now
+            (Ok (own_zone_of zone)))
+            (λ e. (e ≡ Tz (NoMemory alloc_error))
+            ⊎ IsSettingsAnswer (FnReturnsAt F.Fn reader)
+            (map (λ directory. directory.now) DEFAULT_DIRECTORIES.now) tz_string.now (Err e)) }
     {
         let settings = TimeZoneSettings::new(DEFAULT_DIRECTORIES, reader);
         settings.parse_posix_tz(alloc, tz_string)
     }
 
-    /// The time zone with the name, such as `Europe/Paris`, in the database of the system. (tz database, Timezone identifiers)
+    /// The time zone with the name, such as `Europe/Paris`, in the database of the system. (tz
+    /// database, Timezone identifiers)
     ///
-    /// A name has parts of ASCII letters, digits, `.`, `_`, `+` and `-`, with `/` between them; no part is `.` or `..`. For a name the reader is
-    /// asked in each of the [usual directories](DEFAULT_DIRECTORIES) in turn until it returns bytes or `ReadFault::Memory`, and for any other text it
-    /// is not asked. So no path outside of these directories is opened, even if a user chooses the
-    /// name; a link in them is followed, wherever it leads. A name is never read as a TZ string.
+    /// A name has parts of ASCII letters, digits, `.`, `_`, `+` and `-`, with `/` between them; no
+    /// part is `.` or `..`. For a name the reader is asked in each of the [usual
+    /// directories](DEFAULT_DIRECTORIES) in turn until it returns bytes or `ReadFault::Memory`, and
+    /// for any other text it is not asked. So no path outside of these directories is opened, even
+    /// if a user chooses the name; a link in them is followed, wherever it leads. A name is never
+    /// read as a TZ string.
     ///
     /// A file that the reader does not return counts as one that is not there, also if it may not
     /// be read, or is longer than the reader's limit.
@@ -270,16 +356,22 @@ impl<A: Allocator + Copy> TimeZone<A> {
     ///   or if it is one and no directory has a file with it; the error's text says which, and has
     ///   the name;
     /// - [`Error::Tz`] with an error of [`TimeZone::from_tz_data`] if the file is not a TZif file;
-    /// - [`Error::Tz`] of [`TzError::Memory`] if an allocation fails, in this call or in the reader.
+    /// - [`Error::Tz`] of [`TzError::Memory`] if an allocation fails, in this call or in the
+    ///   reader.
     pub fn named<F: Fn(&str) -> Result<Vec<u8>, ReadFault> + Drop>(
         alloc: A,
         reader: F,
         name: &str,
     ) -> Result<Self, Error>
-        requires { IsCallableAt F.Fn reader (IsPathOfName (map (λ directory. directory.now) DEFAULT_DIRECTORIES.now) name.now) }
+        requires { IsCallableAt F.Fn reader (IsPathOfName
+            (map (λ directory. directory.now) DEFAULT_DIRECTORIES.now) name.now) }
         ensures { MatchResult result
-            (λ zone. IsZoneNameAnswer (FnReturnsAt F.Fn reader) (map (λ directory. directory.now) DEFAULT_DIRECTORIES.now) name.now (Ok (own_zone_of zone)))
-            (λ e. (e ≡ Tz (NoMemory alloc_error)) ⊎ IsZoneNameAnswer (FnReturnsAt F.Fn reader) (map (λ directory. directory.now) DEFAULT_DIRECTORIES.now) name.now (Err e)) }
+            (λ zone. IsZoneNameAnswer (FnReturnsAt F.Fn reader)
+            (map (λ directory. directory.now) DEFAULT_DIRECTORIES.now) name.now
+            (Ok (own_zone_of zone)))
+            (λ e. (e ≡ Tz (NoMemory alloc_error))
+            ⊎ IsZoneNameAnswer (FnReturnsAt F.Fn reader)
+            (map (λ directory. directory.now) DEFAULT_DIRECTORIES.now) name.now (Err e)) }
     {
         let settings = TimeZoneSettings::new(DEFAULT_DIRECTORIES, reader);
         settings.zone_of_name(alloc, name)

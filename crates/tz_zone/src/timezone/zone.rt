@@ -4,10 +4,9 @@ ghost use Rattle.tz_zone.specs.Offsets.{AreEndOffsets};
 ghost use Rattle.tz_zone.specs.Table.{zone_with};
 ghost use Rattle.tz_zone.specs.ValidZone.{IsSoundTable, IsSoundTable-prop, IsValidZone};
 
-use super::offset_range::offset_range;
-use super::zone_checks::check_read_parts;
+use super::zone_checks::{check_parts, offset_range};
+use super::zone_data::lent;
 use super::{LeapSecond, LocalTimeType, TimeZoneRef, Transition, TransitionRule};
-use crate::table::lent;
 use std::alloc::{Allocator, Global};
 use std::fmt;
 use tz_base::error::TzError;
@@ -21,9 +20,17 @@ pub struct TimeZone<A: Allocator + Copy = Global> {
     extra_rule: Option<TransitionRule>,
     least_offset: i32,
     greatest_offset: i32,
-    ghost sound: { IsSoundTable (zone_with transitions.items local_time_types.items leap_seconds.items extra_rule) } by { IsSoundTable-prop (zone_with transitions.items local_time_types.items leap_seconds.items extra_rule) },
-    ghost valid: { ∥ IsValidZone (zone_with transitions.items local_time_types.items leap_seconds.items extra_rule) ∥₁ },
-    ghost offsets: { ∥ AreEndOffsets (zone_with transitions.items local_time_types.items leap_seconds.items extra_rule) least_offset greatest_offset ∥₁ },
+    ghost sound: { IsSoundTable
+        (zone_with transitions.items local_time_types.items leap_seconds.items
+        extra_rule) } by { IsSoundTable-prop
+            (zone_with transitions.items local_time_types.items leap_seconds.items
+            extra_rule) },
+    ghost valid: { ∥ IsValidZone
+        (zone_with transitions.items local_time_types.items leap_seconds.items
+        extra_rule) ∥₁ },
+    ghost offsets: { ∥ AreEndOffsets
+        (zone_with transitions.items local_time_types.items leap_seconds.items
+        extra_rule) least_offset greatest_offset ∥₁ },
 }
 
 impl<A: Allocator + Copy> PartialEq for TimeZone<A> {
@@ -34,7 +41,8 @@ impl<A: Allocator + Copy> PartialEq for TimeZone<A> {
 
     ghost eq = { λ a b. same_zone (own_zone_of a) (own_zone_of b) };
 
-    ghost laws = { on_per own_zone_of (partial_equiv_from_equiv (IsEquivalence-from_equality same_zone Decides-same_zone)) };
+    ghost laws = { on_per own_zone_of (partial_equiv_from_equiv
+        (IsEquivalence-from_equality same_zone Decides-same_zone)) };
 
     fn eq(&self, other: &TimeZone<A>) -> bool {
         self.as_ref() == other.as_ref()
@@ -51,12 +59,12 @@ impl<A: Allocator + Copy> Eq for TimeZone<A> {
 }
 
 impl<A: Allocator + Copy> TimeZone<A> {
-    ghost use Rattle.std.specs.Prelude.{◌≡◌, ◌⊎◌, ℕ, pos, length, alloc_error, IfOk, IfErr, OnOk, IsTrue};
+    ghost use Rattle.std.specs.Prelude.{◌≡◌, ◌⊎◌, pos, alloc_error, IfOk, IfErr, OnOk};
     ghost use Rattle.tz_base.specs.declared.error.timezone.LocalTimeTypeError.TheVariants as faults;
     ghost use Rattle.tz_rule.specs.LocalTimeType.{plain_type, IsOffset};
     ghost use Rattle.tz_zone.specs.Table.{zone_with, zone_of_type};
     ghost use Rattle.tz_zone.specs.Clock.{IsClock, IsLookupFault};
-    ghost use Rattle.tz_zone.specs.ValidZone.{HasTypeAtPlace, RisesAtPlace, IsValidZone, IsFirstZoneFault};
+    ghost use Rattle.tz_zone.specs.ValidZone.{IsValidZone, IsFirstZoneFault};
     ghost use Rattle.tz_zone.specs.ZoneRef.{zone_of, own_zone_of};
 
     /// The zone with these parts. (RFC 8536, section 3.2)
@@ -76,55 +84,39 @@ impl<A: Allocator + Copy> TimeZone<A> {
     /// The first of these:
     ///
     /// - [`TzError::TimeZone`] with `NoLocalTimeType` if there is no local time type;
-    /// - [`TzError::TimeZone`] for the first transition that names no type (`InvalidLocalTimeTypeIndex`), or that names one and is not before the
-    ///   next transition (`InvalidTransition`);
-    /// - [`TzError::TimeZone`] with `InvalidLeapSecond` if the first leap second is before 0, or if another one is less than 28 days less a second
-    ///   after the one before it, or does not change the correction by one second; the last record may instead repeat the correction, at any later
-    ///   time, at which the table expires;
-    /// - [`TzError::OutOfRange`] if the last transition takes effect at no instant, or the rule has no type at that instant;
-    /// - [`TzError::TimeZone`] with `InconsistentExtraRule` if the rule's type there is not that of the transition.
+    /// - [`TzError::TimeZone`] for the first transition that names no type
+    ///   (`InvalidLocalTimeTypeIndex`), or that names one and is not before the next transition
+    ///   (`InvalidTransition`);
+    /// - [`TzError::TimeZone`] with `InvalidLeapSecond` if the first leap second is before 0, or if
+    ///   another one is less than 28 days less a second after the one before it, or does not change
+    ///   the correction by one second; the last record may instead repeat the correction, at any
+    ///   later time, at which the table expires;
+    /// - [`TzError::OutOfRange`] if the last transition takes effect at no instant, or the rule has
+    ///   no type at that instant;
+    /// - [`TzError::TimeZone`] with `InconsistentExtraRule` if the rule's type there is not that of
+    ///   the transition.
     ///
-    /// The last two are checked only if there are a rule and a transition, and the last transition is not before the leap-second table begins. On an
-    /// error the lists are dropped.
+    /// The last two are checked only if there are a rule and a transition, and the last transition
+    /// is not before the leap-second table begins. On an error the lists are dropped.
     pub fn new(
         transitions: Vec<Transition, A>,
         local_time_types: Vec<LocalTimeType, A>,
         leap_seconds: Vec<LeapSecond, A>,
         extra_rule: Option<TransitionRule>,
     ) -> Result<Self, TzError>
-        ensures parts { IfOk result (λ z. own_zone_of z ≡ zone_with transitions.items local_time_types.items leap_seconds.items extra_rule) }
-        ensures ok { OnOk result (IsValidZone (zone_with transitions.items local_time_types.items leap_seconds.items extra_rule)) }
-        ensures err { IfErr result (IsFirstZoneFault (zone_with transitions.items local_time_types.items leap_seconds.items extra_rule)) }
+        ensures parts { IfOk result (λ z. own_zone_of z
+            ≡ zone_with transitions.items local_time_types.items
+            leap_seconds.items extra_rule) }
+        ensures ok { OnOk result (IsValidZone (zone_with transitions.items local_time_types.items
+            leap_seconds.items extra_rule)) }
+        ensures err { IfErr result (IsFirstZoneFault
+            (zone_with transitions.items local_time_types.items leap_seconds.items extra_rule)) }
     {
-        TimeZone::from_read_parts(
-            transitions,
-            local_time_types,
-            leap_seconds,
-            extra_rule,
-            false,
-        )
-    }
-
-    /// The zone with these parts. With `are_in_order` the caller knows that the transitions come in order, and that each names a type.
-    #[inline(always)]
-    pub(crate) fn from_read_parts(
-        transitions: Vec<Transition, A>,
-        local_time_types: Vec<LocalTimeType, A>,
-        leap_seconds: Vec<LeapSecond, A>,
-        extra_rule: Option<TransitionRule>,
-        are_in_order: bool,
-    ) -> Result<Self, TzError>
-        requires { IsTrue are_in_order → (i : ℕ) → HasTypeAtPlace transitions.items (length local_time_types.items) i × RisesAtPlace transitions.items i }
-        ensures parts { IfOk result (λ z. own_zone_of z ≡ zone_with transitions.items local_time_types.items leap_seconds.items extra_rule) }
-        ensures ok { OnOk result (IsValidZone (zone_with transitions.items local_time_types.items leap_seconds.items extra_rule)) }
-        ensures err { IfErr result (IsFirstZoneFault (zone_with transitions.items local_time_types.items leap_seconds.items extra_rule)) }
-    {
-        check_read_parts(
+        check_parts(
             &transitions,
             &local_time_types,
             &leap_seconds,
             lent(&extra_rule),
-            are_in_order,
         )?;
         let (least_offset, greatest_offset) = offset_range(&local_time_types, lent(&extra_rule));
         Ok(TimeZone {
@@ -153,11 +145,14 @@ impl<A: Allocator + Copy> TimeZone<A> {
     ///
     /// # Errors
     ///
-    /// - [`TzError::LocalTimeType`] with `InvalidUtcOffset` if the offset is `i32::MIN`, which is checked before anything is allocated;
+    /// - [`TzError::LocalTimeType`] with `InvalidUtcOffset` if the offset is `i32::MIN`, which is
+    ///   checked before anything is allocated;
     /// - [`TzError::Memory`] if an allocation fails.
     pub fn fixed(alloc: A, ut_offset: i32) -> Result<Self, TzError>
-        ensures ok { IfOk result (λ z. IsOffset ut_offset × (own_zone_of z ≡ zone_of_type (plain_type ut_offset))) }
-        ensures err { IfErr result (λ e. ((e ≡ TzError.LocalTimeType faults.InvalidUtcOffset) × ¬ IsOffset ut_offset) ⊎ ((e ≡ TzError.Memory alloc_error) × IsOffset ut_offset)) }
+        ensures ok { IfOk result (λ z. IsOffset ut_offset
+            × (own_zone_of z ≡ zone_of_type (plain_type ut_offset))) }
+        ensures err { IfErr result (λ e. ((e ≡ TzError.LocalTimeType faults.InvalidUtcOffset)
+            × ¬ IsOffset ut_offset) ⊎ ((e ≡ TzError.Memory alloc_error) × IsOffset ut_offset)) }
     {
         let local_time_type = LocalTimeType::with_ut_offset(ut_offset)?;
         TimeZone::with_type(alloc, local_time_type)
@@ -218,15 +213,19 @@ impl<A: Allocator + Copy> TimeZone<A> {
 
     /// The clock's type at an instant, in Unix seconds. (RFC 8536, section 3.2)
     ///
-    /// Before the first transition it is type number 0, from there up to the last one it is the type of the last transition that has been reached,
-    /// and from the last one on that of the extra rule. A zone without transitions has the type of its rule, or type number 0 if it has no rule.
+    /// Before the first transition it is type number 0, from there up to the last one it is the
+    /// type of the last transition that has been reached, and from the last one on that of the
+    /// extra rule. A zone without transitions has the type of its rule, or type number 0 if it has
+    /// no rule.
     ///
     /// # Errors
     ///
-    /// - [`TzError::NoAvailableLocalTimeType`] if the last transition has taken effect and there is no rule;
-    /// - [`TzError::OutOfRange`] if the rule is needed and is not defined in that year: an alternate rule is defined from the year `i32::MIN + 2` to
-    ///   `i32::MAX - 2` in UTC; or if the zone has transitions and the instant has no leap time, because it is before a leap-second table that begins
-    ///   late, or because the leap time does not fit an `i64`.
+    /// - [`TzError::NoAvailableLocalTimeType`] if the last transition has taken effect and there is
+    ///   no rule;
+    /// - [`TzError::OutOfRange`] if the rule is needed and is not defined in that year: an
+    ///   alternate rule is defined from the year `i32::MIN + 2` to `i32::MAX - 2` in UTC; or if the
+    ///   zone has transitions and the instant has no leap time, because it is before a leap-second
+    ///   table that begins late, or because the leap time does not fit an `i64`.
     pub fn find_local_time_type(&self, unix_time: i64) -> Result<&LocalTimeType, TzError>
         ensures ok { IfOk result (λ t. IsClock (own_zone_of self.now) unix_time t.now) }
         ensures err { IfErr result (IsLookupFault (own_zone_of self.now) unix_time) }

@@ -1,41 +1,46 @@
-//! The checks of a zone: transitions in order and to types of the zone, its table of leap seconds, and a rule that agrees with the last transition.
+//! The checks of a zone: transitions in order and to types of the zone, its table of leap seconds,
+//! and a rule that agrees with the last transition.
 
-ghost use Rattle.std.specs.Prelude.{◌≡◌, ℕ, ◌+◌, ◌<◌, length, OnOk, IfOk, IfErr, IsTrue, MatchBool};
+ghost use Rattle.std.specs.Prelude.{◌≡◌, ℕ, ◌+◌, ◌<◌, length, OnOk, IfOk, IfErr, MatchBool, ◌⊎◌, ℤ, ◌≤ℤ◌};
 ghost use Rattle.tz_rule.specs.LocalTimeType.{LocalTimeType};
 ghost use Rattle.tz_rule.specs.RuleRef.{rule_seen};
 ghost use Rattle.tz_zone.specs.Table.{zone_with};
-ghost use Rattle.tz_zone.specs.ZoneSeen.{lent_rule};
-ghost use Rattle.tz_zone.specs.ValidZone.{IsRuleTypeAt, AreLeapSeconds, HasTypeAtPlace, RisesAtPlace, IsFirstTransitionFault, IsSoundTable, IsRuleFault, RuleAnswers, RuleAgrees, IsValidZone, IsFirstZoneFault};
+ghost use Rattle.tz_zone.specs.LentRules.{lent_rule};
+ghost use Rattle.tz_zone.specs.ValidZone.{IsRuleTypeAt, AreLeapSeconds, HasTypeAtIndex, RisesAtIndex, IsFirstTransitionFault, IsSoundTable, IsRuleFault, RuleAnswers, RuleAgrees, IsValidZone, IsFirstZoneFault};
+ghost use Rattle.tz_zone.specs.Offsets.{IsOffsetOfTypes, IsOffsetOfRule, IsLeastOffset, IsGreatestOffset};
 
 use super::{LeapSecond, LocalTimeType, Transition};
-use crate::leap::from_leap_time::effect;
+use crate::leap::leap_time::effect;
 use crate::leap::table::{are_leap_seconds, has_begun_at};
 use tz_base::error::TzError;
 use tz_base::error::timezone::TimeZoneError;
 use tz_rule::inner::RuleRef;
 
-/// Whether the type index of the transition at a place is below `types`, the number of types.
-fn has_type_at(transitions: &[Transition], types: usize, place: usize) -> bool
-    requires { place < length transitions.now }
-    ensures { MatchBool result (HasTypeAtPlace transitions.now types place) (¬ HasTypeAtPlace transitions.now types place) }
+/// Whether the type index of the transition at an index is below `types`, the number of types.
+fn has_type_at(transitions: &[Transition], types: usize, index: usize) -> bool
+    requires { index < length transitions.now }
+    ensures { MatchBool result (HasTypeAtIndex transitions.now types index)
+        (¬ HasTypeAtIndex transitions.now types index) }
 {
-    transitions[place].local_time_type_index() < types
+    transitions[index].local_time_type_index() < types
 }
 
-/// Whether the transition at a place comes before the next one.
-fn rises_at(transitions: &[Transition], place: usize) -> bool
-    requires { place < length transitions.now }
-    ensures { MatchBool result (RisesAtPlace transitions.now place) (¬ RisesAtPlace transitions.now place) }
+/// Whether the transition at an index comes before the next one.
+fn rises_at(transitions: &[Transition], index: usize) -> bool
+    requires { index < length transitions.now }
+    ensures { MatchBool result (RisesAtIndex transitions.now index)
+        (¬ RisesAtIndex transitions.now index) }
 {
-    if place + 1 == transitions.len() {
+    if index + 1 == transitions.len() {
         return true;
     }
-    transitions[place].unix_leap_time() < transitions[place + 1].unix_leap_time()
+    transitions[index].unix_leap_time() < transitions[index + 1].unix_leap_time()
 }
 
 /// Each transition names one of the types, whose number is given, and comes before the next one.
 fn check_transitions(transitions: &[Transition], types: usize) -> Result<(), TimeZoneError>
-    ensures ok { OnOk result ((i : ℕ) → HasTypeAtPlace transitions.now types i × RisesAtPlace transitions.now i) }
+    ensures ok { OnOk result ((i : ℕ) → HasTypeAtIndex transitions.now types i
+        × RisesAtIndex transitions.now i) }
     ensures err { IfErr result (IsFirstTransitionFault transitions.now types) }
 {
     for i in 0..transitions.len() {
@@ -49,23 +54,6 @@ fn check_transitions(transitions: &[Transition], types: usize) -> Result<(), Tim
     Ok(())
 }
 
-/// Checks the transitions, unless they are known to come in order, and each to name a type.
-#[inline(always)]
-fn check_unknown_transitions(
-    transitions: &[Transition],
-    types: usize,
-    are_in_order: bool,
-) -> Result<(), TimeZoneError>
-    requires { IsTrue are_in_order → (i : ℕ) → HasTypeAtPlace transitions.now types i × RisesAtPlace transitions.now i }
-    ensures ok { OnOk result ((i : ℕ) → HasTypeAtPlace transitions.now types i × RisesAtPlace transitions.now i) }
-    ensures err { IfErr result (IsFirstTransitionFault transitions.now types) }
-{
-    if are_in_order {
-        return Ok(());
-    }
-    check_transitions(transitions, types)
-}
-
 /// The type that a rule has where a leap time takes effect.
 fn rule_type_at<'a>(
     rule: RuleRef<'a>,
@@ -73,8 +61,11 @@ fn rule_type_at<'a>(
     unix_leap_time: i64,
 ) -> Result<&'a LocalTimeType, TzError>
     requires { AreLeapSeconds leap_seconds.now }
-    ensures ok { IfOk result (λ t. IsRuleTypeAt leap_seconds.now (rule_seen rule.entry) unix_leap_time t.now) }
-    ensures err { IfErr result (λ e. (e ≡ TzError.OutOfRange) × ((t : LocalTimeType) → ¬ IsRuleTypeAt leap_seconds.now (rule_seen rule.entry) unix_leap_time t)) }
+    ensures ok { IfOk result
+        (λ t. IsRuleTypeAt leap_seconds.now (rule_seen rule.entry) unix_leap_time t.now) }
+    ensures err { IfErr result (λ e. (e ≡ TzError.OutOfRange)
+        × ((t : LocalTimeType) → ¬ IsRuleTypeAt leap_seconds.now
+        (rule_seen rule.entry) unix_leap_time t)) }
 {
     match effect(leap_seconds, unix_leap_time) {
         Ok(unix_time) => tz_rule::inner::find_local_time_type(rule, unix_time),
@@ -82,17 +73,25 @@ fn rule_type_at<'a>(
     }
 }
 
-/// The extra rule has a type at the last transition, which is that transition's, unless the transition is before a truncated start.
+/// The extra rule has a type at the last transition, which is that transition's, unless the
+/// transition is before a truncated start.
 fn check_extra_rule(
     transitions: &[Transition],
     local_time_types: &[LocalTimeType],
     leap_seconds: &[LeapSecond],
     extra_rule: Option<RuleRef<'_>>,
 ) -> Result<(), TzError>
-    requires { IsSoundTable (zone_with transitions.now local_time_types.now leap_seconds.now (lent_rule extra_rule)) }
-    ensures answers { OnOk result (RuleAnswers (zone_with transitions.now local_time_types.now leap_seconds.now (lent_rule extra_rule.entry))) }
-    ensures agrees { OnOk result (RuleAgrees (zone_with transitions.now local_time_types.now leap_seconds.now (lent_rule extra_rule.entry))) }
-    ensures err { IfErr result (IsRuleFault (zone_with transitions.now local_time_types.now leap_seconds.now (lent_rule extra_rule.entry))) }
+    requires { IsSoundTable (zone_with transitions.now local_time_types.now leap_seconds.now
+        (lent_rule extra_rule)) }
+    ensures answers { OnOk result (RuleAnswers
+        (zone_with transitions.now local_time_types.now leap_seconds.now
+        (lent_rule extra_rule.entry))) }
+    ensures agrees { OnOk result (RuleAgrees
+        (zone_with transitions.now local_time_types.now leap_seconds.now
+        (lent_rule extra_rule.entry))) }
+    ensures err { IfErr result (IsRuleFault
+        (zone_with transitions.now local_time_types.now leap_seconds.now
+        (lent_rule extra_rule.entry))) }
 {
     let Some(rule) = extra_rule else {
         return Ok(());
@@ -118,43 +117,87 @@ pub(crate) fn check_parts(
     leap_seconds: &[LeapSecond],
     extra_rule: Option<RuleRef<'_>>,
 ) -> Result<(), TzError>
-    ensures ok { OnOk result (IsValidZone (zone_with transitions.now local_time_types.now leap_seconds.now (lent_rule extra_rule.entry))) }
-    ensures err { IfErr result (IsFirstZoneFault (zone_with transitions.now local_time_types.now leap_seconds.now (lent_rule extra_rule.entry))) }
-{
-    check_read_parts(
-        transitions,
-        local_time_types,
-        leap_seconds,
-        extra_rule,
-        false,
-    )
-}
-
-/// Checks the parts of a zone, in the order of their errors, but not transitions that are known to come in order, and each to name a type.
-#[inline(always)]
-pub(crate) fn check_read_parts(
-    transitions: &[Transition],
-    local_time_types: &[LocalTimeType],
-    leap_seconds: &[LeapSecond],
-    extra_rule: Option<RuleRef<'_>>,
-    are_in_order: bool,
-) -> Result<(), TzError>
-    requires { IsTrue are_in_order → (i : ℕ) → HasTypeAtPlace transitions.now (length local_time_types.now) i × RisesAtPlace transitions.now i }
-    ensures ok { OnOk result (IsValidZone (zone_with transitions.now local_time_types.now leap_seconds.now (lent_rule extra_rule.entry))) }
-    ensures err { IfErr result (IsFirstZoneFault (zone_with transitions.now local_time_types.now leap_seconds.now (lent_rule extra_rule.entry))) }
+    ensures ok { OnOk result (IsValidZone
+        (zone_with transitions.now local_time_types.now leap_seconds.now
+        (lent_rule extra_rule.entry))) }
+    ensures err { IfErr result (IsFirstZoneFault
+        (zone_with transitions.now local_time_types.now leap_seconds.now
+        (lent_rule extra_rule.entry))) }
 {
     if local_time_types.is_empty() {
         return Err(TzError::TimeZone(TimeZoneError::NoLocalTimeType));
     }
-    if let Err(error) = check_unknown_transitions(
-        transitions,
-        local_time_types.len(),
-        are_in_order,
-    ) {
+    if let Err(error) = check_transitions(transitions, local_time_types.len()) {
         return Err(TzError::TimeZone(error));
     }
     if !are_leap_seconds(leap_seconds) {
         return Err(TzError::TimeZone(TimeZoneError::InvalidLeapSecond));
     }
     check_extra_rule(transitions, local_time_types, leap_seconds, extra_rule)
+}
+
+/// The range of offsets from `least` to `greatest`, widened just enough to have another one.
+#[inline(always)]
+fn with_offset(least: i32, greatest: i32, offset: i32) -> (i32, i32)
+    ensures least { result.0 ≤ℤ least }
+    ensures greatest { greatest ≤ℤ result.1 }
+    ensures between { (result.0 ≤ℤ offset) × (offset ≤ℤ result.1) }
+    ensures exact { ((result.0 ≡ least) ⊎ (result.0 ≡ offset))
+        × ((result.1 ≡ greatest) ⊎ (result.1 ≡ offset)) }
+{
+    (least.min(offset), greatest.max(offset))
+}
+
+/// The least and the greatest offset of the types.
+fn offsets_of_types(local_time_types: &[LocalTimeType]) -> (i32, i32)
+    requires { 0 < length local_time_types.now }
+    ensures of_types { IsOffsetOfTypes local_time_types.now result.0
+        × IsOffsetOfTypes local_time_types.now result.1 }
+    ensures between { (o : ℤ) → IsOffsetOfTypes local_time_types.now o
+        → (result.0 ≤ℤ o) × (o ≤ℤ result.1) }
+{
+    let first = local_time_types[0].ut_offset();
+    let (mut least, mut greatest) = (first, first);
+    for index in 0..local_time_types.len() {
+        let ends = with_offset(least, greatest, local_time_types[index].ut_offset());
+        least = ends.0;
+        greatest = ends.1;
+    }
+    (least, greatest)
+}
+
+/// Two offsets, moved apart until those of the rule lie between them, and no further.
+fn with_rule(rule: RuleRef<'_>, least: i32, greatest: i32) -> (i32, i32)
+    ensures least { result.0 ≤ℤ least }
+    ensures greatest { greatest ≤ℤ result.1 }
+    ensures between { (o : ℤ) → IsOffsetOfRule (rule_seen rule.entry) o
+        → (result.0 ≤ℤ o) × (o ≤ℤ result.1) }
+    ensures exact { ((result.0 ≡ least) ⊎ IsOffsetOfRule (rule_seen rule.entry) result.0)
+        × ((result.1 ≡ greatest) ⊎ IsOffsetOfRule (rule_seen rule.entry) result.1) }
+{
+    match rule {
+        RuleRef::Fixed(local_time_type) => {
+            with_offset(least, greatest, local_time_type.ut_offset())
+        }
+        RuleRef::Alternate(rule) => {
+            let with_std = with_offset(least, greatest, rule.std().ut_offset());
+            with_offset(with_std.0, with_std.1, rule.dst().ut_offset())
+        }
+    }
+}
+
+/// The least and the greatest offset of the types and of the rule.
+pub(super) fn offset_range(
+    local_time_types: &[LocalTimeType],
+    extra_rule: Option<RuleRef<'_>>,
+) -> (i32, i32)
+    requires { 0 < length local_time_types.now }
+    ensures least { IsLeastOffset local_time_types.now (lent_rule extra_rule.entry) result.0 }
+    ensures greatest { IsGreatestOffset local_time_types.now (lent_rule extra_rule.entry) result.1 }
+{
+    let (least, greatest) = offsets_of_types(local_time_types);
+    match extra_rule {
+        Some(rule) => with_rule(rule, least, greatest),
+        None => (least, greatest),
+    }
 }

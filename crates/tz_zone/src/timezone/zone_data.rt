@@ -1,37 +1,62 @@
-//! Zones as plain data, in tables that another language may own.
+//! Zones as plain data, whose tables and rule another owner has.
 
 ghost use Rattle.std.specs.Prelude.{◌≡◌};
 ghost use Rattle.tz_zone.specs.Offsets.{AreEndOffsets};
 ghost use Rattle.tz_zone.specs.Table.{zone_with};
 ghost use Rattle.tz_zone.specs.ValidZone.{IsSoundTable, IsSoundTable-prop, IsValidZone};
-ghost use Rattle.tz_zone.specs.ZoneSeen.{lent_rule, rule_of_lists};
+ghost use Rattle.tz_zone.specs.LentRules.{lent_rule, rule_of_source, rule_of_lists};
 
-use super::offset_range::offset_range;
-use super::zone_checks::check_parts;
-use super::{Change, LeapSecond, LocalTimeType, Segment, TimeZoneRef, Transition, TransitionRule};
+use super::zone_checks::{check_parts, offset_range};
+use super::{Change, LeapSecond, LocalTimeType, Segment, Transition, TransitionRule};
 use crate::clock::{self, find_following, find_preceding};
-use crate::table::{KeptRule, OtherParts, Uncounted, lent};
-use std::slice::from_ref;
+use crate::table::Uncounted;
 use tz_base::error::TzError;
 use tz_rule::inner::{AlternateData, RuleRef};
 
-/// A time zone as slices of plain data, in C's layout. Its rule is the first fixed type, or else the first alternate rule.
-#[repr(C)]
+/// The rule of a zone as its owner keeps it. It is lent where the rule is needed, so that lending a
+/// zone tests nothing of it.
 #[derive(Clone, Copy)]
-pub struct ZoneData<'a> {
-    transitions: &'a [Transition],
-    local_time_types: &'a [LocalTimeType],
-    leap_seconds: &'a [LeapSecond],
-    fixed: &'a [LocalTimeType],
-    alternate: &'a [AlternateData],
-    least_offset: i32,
-    greatest_offset: i32,
-    ghost sound: { IsSoundTable (zone_with transitions.now local_time_types.now leap_seconds.now (rule_of_lists fixed.now alternate.now)) } by { IsSoundTable-prop (zone_with transitions.now local_time_types.now leap_seconds.now (rule_of_lists fixed.now alternate.now)) },
-    ghost valid: { ∥ IsValidZone (zone_with transitions.now local_time_types.now leap_seconds.now (rule_of_lists fixed.now alternate.now)) ∥₁ },
-    ghost offsets: { ∥ AreEndOffsets (zone_with transitions.now local_time_types.now leap_seconds.now (rule_of_lists fixed.now alternate.now)) least_offset greatest_offset ∥₁ },
+pub enum RuleSource<'a> {
+    /// A rule, or none.
+    Whole(&'a Option<TransitionRule>),
+    /// The first fixed type, or else the first alternate rule.
+    Listed(&'a [LocalTimeType], &'a [AlternateData]),
 }
 
-/// The rule that two lists give: the first type of the one, or else the first alternate rule of the other.
+/// A time zone as slices of plain data, and its rule.
+#[derive(Clone, Copy)]
+pub struct ZoneData<'a> {
+    pub(crate) transitions: &'a [Transition],
+    pub(crate) local_time_types: &'a [LocalTimeType],
+    pub(crate) leap_seconds: &'a [LeapSecond],
+    rule: RuleSource<'a>,
+    least_offset: i32,
+    greatest_offset: i32,
+    ghost sound: { IsSoundTable
+        (zone_with transitions.now local_time_types.now leap_seconds.now
+        (rule_of_source rule)) } by { IsSoundTable-prop
+            (zone_with transitions.now local_time_types.now leap_seconds.now
+            (rule_of_source rule)) },
+    ghost valid: { ∥ IsValidZone (zone_with transitions.now local_time_types.now leap_seconds.now
+        (rule_of_source rule)) ∥₁ },
+    ghost offsets: { ∥ AreEndOffsets
+        (zone_with transitions.now local_time_types.now leap_seconds.now
+        (rule_of_source rule)) least_offset greatest_offset ∥₁ },
+}
+
+/// Lends a rule, if there is one.
+#[inline(always)]
+pub(super) fn lent(extra_rule: &Option<TransitionRule>) -> Option<RuleRef<'_>>
+    ensures { lent_rule result ≡ extra_rule.now }
+{
+    match extra_rule {
+        Some(rule) => Some(RuleRef::of(rule)),
+        None => None,
+    }
+}
+
+/// The rule that two lists give: the first type of the one, or else the first alternate rule of the
+/// other.
 #[inline(always)]
 fn rule_of<'a>(fixed: &'a [LocalTimeType], alternate: &'a [AlternateData]) -> Option<RuleRef<'a>>
     ensures { lent_rule result ≡ rule_of_lists fixed.entry.now alternate.entry.now }
@@ -45,15 +70,16 @@ fn rule_of<'a>(fixed: &'a [LocalTimeType], alternate: &'a [AlternateData]) -> Op
     }
 }
 
-/// The two lists that give a rule.
-#[inline(always)]
-fn lists_of<'a>(rule: &'a Option<TransitionRule>) -> (&'a [LocalTimeType], &'a [AlternateData])
-    ensures { rule_of_lists result.0.now result.1.now ≡ rule.entry.now }
-{
-    match lent(rule) {
-        None => (&[], &[]),
-        Some(RuleRef::Fixed(local_time_type)) => (from_ref(local_time_type), &[]),
-        Some(RuleRef::Alternate(rule)) => (&[], from_ref(rule)),
+impl<'a> RuleSource<'a> {
+    /// Lends the rule, if there is one.
+    #[inline(always)]
+    fn lent(self) -> Option<RuleRef<'a>>
+        ensures { lent_rule result ≡ rule_of_source self.entry }
+    {
+        match self {
+            RuleSource::Whole(extra_rule) => lent(extra_rule),
+            RuleSource::Listed(fixed, alternate) => rule_of(fixed, alternate),
+        }
     }
 }
 
@@ -64,9 +90,8 @@ impl<'a> ZoneData<'a> {
     ghost use Rattle.tz_zone.specs.Offsets.{AreEndOffsets};
     ghost use Rattle.tz_zone.specs.Table.{zone_with};
     ghost use Rattle.tz_zone.specs.TableChanges.{HasTableEnds};
-    ghost use Rattle.tz_zone.specs.ValidZone.{IsValidZone, IsFirstZoneFault};
-    ghost use Rattle.tz_zone.specs.ZoneSeen.{rule_of_lists, zone_seen};
-    ghost use Rattle.tz_zone.specs.ZoneRef.{zone_of};
+    ghost use Rattle.tz_zone.specs.ValidZone.{IsSoundTable, IsValidZone, IsFirstZoneFault};
+    ghost use Rattle.tz_zone.specs.LentRules.{lent_rule, rule_of_source};
     ghost use Rattle.tz_zone.specs.ZoneOfData.{zone_of_data};
 
     /// The zone with these parts, which are checked as `TimeZoneRef::new` checks them.
@@ -74,40 +99,55 @@ impl<'a> ZoneData<'a> {
         transitions: &'a [Transition],
         local_time_types: &'a [LocalTimeType],
         leap_seconds: &'a [LeapSecond],
-        fixed: &'a [LocalTimeType],
-        alternate: &'a [AlternateData],
+        rule: RuleSource<'a>,
     ) -> Result<Self, TzError>
-        ensures parts { IfOk result (λ z. zone_of_data z ≡ zone_with transitions.now local_time_types.now leap_seconds.now (rule_of_lists fixed.now alternate.now)) }
-        ensures ok { OnOk result (IsValidZone (zone_with transitions.now local_time_types.now leap_seconds.now (rule_of_lists fixed.now alternate.now))) }
-        ensures err { IfErr result (IsFirstZoneFault (zone_with transitions.now local_time_types.now leap_seconds.now (rule_of_lists fixed.now alternate.now))) }
+        ensures parts { IfOk result (λ z. zone_of_data z
+            ≡ zone_with transitions.now local_time_types.now
+            leap_seconds.now (rule_of_source rule.entry)) }
+        ensures ok { OnOk result (IsValidZone (zone_with transitions.now local_time_types.now
+            leap_seconds.now (rule_of_source rule.entry))) }
+        ensures err { IfErr result (IsFirstZoneFault
+            (zone_with transitions.now local_time_types.now leap_seconds.now
+            (rule_of_source rule.entry))) }
     {
-        let rule = rule_of(fixed, alternate);
-        check_parts(transitions, local_time_types, leap_seconds, rule)?;
-        let (least_offset, greatest_offset) = offset_range(local_time_types, rule);
+        let lent = rule.lent();
+        check_parts(transitions, local_time_types, leap_seconds, lent)?;
+        let (least_offset, greatest_offset) = offset_range(local_time_types, lent);
         Ok(ZoneData {
             transitions,
             local_time_types,
             leap_seconds,
-            fixed,
-            alternate,
+            rule,
             least_offset,
             greatest_offset,
         })
     }
 
-    /// The data of a borrowed zone.
+    /// The zone with parts that are known to make one, and with its least and its greatest offset.
     #[inline(always)]
-    pub fn of(zone: TimeZoneRef<'a>) -> Self
-        ensures { zone_of_data result ≡ zone_of zone.entry }
+    pub fn from_valid_parts(
+        transitions: &'a [Transition],
+        local_time_types: &'a [LocalTimeType],
+        leap_seconds: &'a [LeapSecond],
+        rule: RuleSource<'a>,
+        least_offset: i32,
+        greatest_offset: i32,
+    ) -> Self
+        requires sound { IsSoundTable (zone_with
+            transitions.now local_time_types.now leap_seconds.now (rule_of_source rule)) }
+        requires valid { ∥ IsValidZone (zone_with
+            transitions.now local_time_types.now leap_seconds.now (rule_of_source rule)) ∥₁ }
+        requires offsets { ∥ AreEndOffsets (zone_with
+            transitions.now local_time_types.now leap_seconds.now (rule_of_source rule))
+            least_offset greatest_offset ∥₁ }
+        ensures { zone_of_data result ≡ zone_with
+            transitions.now local_time_types.now leap_seconds.now (rule_of_source rule.entry) }
     {
-        let (fixed, alternate) = lists_of(zone.extra_rule());
-        let (least_offset, greatest_offset) = zone.offsets();
         ZoneData {
-            transitions: zone.transitions(),
-            local_time_types: zone.local_time_types(),
-            leap_seconds: zone.leap_seconds(),
-            fixed,
-            alternate,
+            transitions,
+            local_time_types,
+            leap_seconds,
+            rule,
             least_offset,
             greatest_offset,
         }
@@ -121,16 +161,28 @@ impl<'a> ZoneData<'a> {
         self.transitions
     }
 
-    /// What the zone has beside its transitions.
+    /// The local time types, which the transitions name by their numbers.
     #[inline(always)]
-    pub fn other_parts(&self) -> OtherParts<'a>
-        ensures { zone_seen (zone_of_data self.now).transitions result ≡ zone_of_data self.now }
+    pub fn local_time_types(&self) -> &'a [LocalTimeType]
+        ensures { result.now ≡ (zone_of_data self.now).types }
     {
-        OtherParts {
-            local_time_types: self.local_time_types,
-            leap_seconds: self.leap_seconds,
-            extra_rule: KeptRule::of(rule_of(self.fixed, self.alternate)),
-        }
+        self.local_time_types
+    }
+
+    /// The leap seconds, in order.
+    #[inline(always)]
+    pub fn leap_seconds(&self) -> &'a [LeapSecond]
+        ensures { result.now ≡ (zone_of_data self.now).leap_seconds }
+    {
+        self.leap_seconds
+    }
+
+    /// The rule from the last transition on, lent.
+    #[inline(always)]
+    pub fn rule(&self) -> Option<RuleRef<'a>>
+        ensures { lent_rule result ≡ (zone_of_data self.now).extra_rule }
+    {
+        self.rule.lent()
     }
 
     /// The least and the greatest offset of the types and of the rule.
@@ -148,32 +200,36 @@ impl<'a> ZoneData<'a> {
         ensures err { IfErr result (IsLookupFault (zone_of_data self.now) unix_time) }
     {
         let mut view = Uncounted::new(self.transitions);
-        clock::find_local_time_type(&mut view, self.other_parts(), unix_time)
+        clock::find_local_time_type(&mut view, self, unix_time)
     }
 
     /// The segment around an instant, as `TimeZoneRef::segment_at` answers it.
     pub fn segment_at(&self, unix_time: i64) -> Segment<'a>
-        ensures within { ((segment_of result).from ≤ℤ unix_time) × (unix_time ≤ℤ (segment_of result).last) }
+        ensures within { ((segment_of result).from ≤ℤ unix_time)
+            × (unix_time ≤ℤ (segment_of result).last) }
         ensures segment { IsTrueSegment (zone_of_data self.now) (segment_of result) }
-        ensures ends { HasTableEnds (zone_of_data self.now) (segment_of result).from (segment_of result).last }
+        ensures ends { HasTableEnds (zone_of_data self.now) (segment_of result).from
+            (segment_of result).last }
     {
         let mut view = Uncounted::new(self.transitions);
-        clock::clock_segment_at(&mut view, self.other_parts(), unix_time)
+        clock::clock_segment_at(&mut view, self, unix_time)
     }
 
     /// The first change after an instant, as `TimeZoneRef::following` answers it.
     pub fn following(&self, unix_time: i64) -> Option<Change<'a>>
-        ensures { MatchOption result (HasNoFollowing (zone_of_data self.now) unix_time) (λ c. IsFollowing (zone_of_data self.now) unix_time (change_of c)) }
+        ensures { MatchOption result (HasNoFollowing (zone_of_data self.now) unix_time)
+            (λ c. IsFollowing (zone_of_data self.now) unix_time (change_of c)) }
     {
-        let (change, _) = find_following(self.transitions, self.other_parts(), unix_time, None)?;
+        let (change, _) = find_following(self, unix_time)?;
         Some(change)
     }
 
     /// The last change before an instant, as `TimeZoneRef::preceding` answers it.
     pub fn preceding(&self, unix_time: i64) -> Option<Change<'a>>
-        ensures { MatchOption result (HasNoPreceding (zone_of_data self.now) unix_time) (λ c. IsPreceding (zone_of_data self.now) unix_time (change_of c)) }
+        ensures { MatchOption result (HasNoPreceding (zone_of_data self.now) unix_time)
+            (λ c. IsPreceding (zone_of_data self.now) unix_time (change_of c)) }
     {
-        let (change, _) = find_preceding(self.transitions, self.other_parts(), unix_time, None)?;
+        let (change, _) = find_preceding(self, unix_time)?;
         Some(change)
     }
 }

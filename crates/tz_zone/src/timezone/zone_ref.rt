@@ -1,33 +1,26 @@
 //! Borrowed time zones.
 
-ghost use Rattle.std.specs.Prelude.{ℤ};
-ghost use Rattle.tz_zone.specs.Offsets.{AreEndOffsets};
-ghost use Rattle.tz_zone.specs.Table.{zone_with};
-ghost use Rattle.tz_zone.specs.ValidZone.{IsSoundTable, IsSoundTable-prop, IsValidZone};
+ghost use Rattle.std.specs.Prelude.{◌≡◌};
+ghost use Rattle.tz_zone.specs.LentRules.{rule_of_source};
 
-use super::offset_range::offset_range;
-use super::zone_checks::check_parts;
+use super::zone_data::{RuleSource, ZoneData};
 use super::{LeapSecond, LocalTimeType, Transition, TransitionRule};
 use crate::clock;
 use crate::leap::table::expiry;
-use crate::table::{Counted, Uncounted, lent, other_parts_of};
+use crate::table::Counted;
 use std::fmt;
 use tz_base::error::TzError;
 
 /// A borrowed time zone.
 ///
-/// Before the last transition, the transitions determine its clock; from there on the extra rule does.
+/// Before the last transition, the transitions determine its clock; from there on the extra rule
+/// does.
 #[derive(Clone, Copy)]
 pub struct TimeZoneRef<'a> {
-    pub(super) transitions: &'a [Transition],
-    local_time_types: &'a [LocalTimeType],
-    leap_seconds: &'a [LeapSecond],
+    pub(super) plain: ZoneData<'a>,
+    // The rule that `plain` keeps, as `extra_rule` returns it.
     extra_rule: &'a Option<TransitionRule>,
-    least_offset: i32,
-    greatest_offset: i32,
-    ghost sound: { IsSoundTable (zone_with transitions.now local_time_types.now leap_seconds.now extra_rule.now) } by { IsSoundTable-prop (zone_with transitions.now local_time_types.now leap_seconds.now extra_rule.now) },
-    ghost valid: { ∥ IsValidZone (zone_with transitions.now local_time_types.now leap_seconds.now extra_rule.now) ∥₁ },
-    ghost offsets: { ∥ AreEndOffsets (zone_with transitions.now local_time_types.now leap_seconds.now extra_rule.now) least_offset greatest_offset ∥₁ },
+    ghost same: { rule_of_source plain.rule ≡ extra_rule.now },
 }
 
 impl<'a> PartialEq for TimeZoneRef<'a> {
@@ -38,12 +31,13 @@ impl<'a> PartialEq for TimeZoneRef<'a> {
 
     ghost eq = { λ a b. same_zone (zone_of a) (zone_of b) };
 
-    ghost laws = { on_per zone_of (partial_equiv_from_equiv (IsEquivalence-from_equality same_zone Decides-same_zone)) };
+    ghost laws = { on_per zone_of (partial_equiv_from_equiv
+        (IsEquivalence-from_equality same_zone Decides-same_zone)) };
 
     fn eq(&self, other: &TimeZoneRef<'a>) -> bool {
-        self.transitions == other.transitions
-            && self.local_time_types == other.local_time_types
-            && self.leap_seconds == other.leap_seconds
+        self.plain.transitions == other.plain.transitions
+            && self.plain.local_time_types == other.plain.local_time_types
+            && self.plain.leap_seconds == other.plain.leap_seconds
             && self.extra_rule == other.extra_rule
     }
 }
@@ -68,7 +62,8 @@ impl<'a> TimeZoneRef<'a> {
 
     /// The zone with these parts. (RFC 8536, section 3.2)
     ///
-    /// A zone from parts, without allocating: clocks were an hour ahead of UTC until the year 2000, and are two hours ahead from then on.
+    /// A zone from parts, without allocating: clocks were an hour ahead of UTC until the year 2000,
+    /// and are two hours ahead from then on.
     ///
     /// ```rust
     /// pub fn moved_ahead_in_2000(unix_time: i64) -> Result<DateTime, TzError> {
@@ -87,36 +82,36 @@ impl<'a> TimeZoneRef<'a> {
     /// The first of these:
     ///
     /// - [`TzError::TimeZone`] with `NoLocalTimeType` if there is no local time type;
-    /// - [`TzError::TimeZone`] for the first transition that names no type (`InvalidLocalTimeTypeIndex`), or that names one and is not before the
-    ///   next transition (`InvalidTransition`);
-    /// - [`TzError::TimeZone`] with `InvalidLeapSecond` if the first leap second is before 0, or if another one is less than 28 days less a second
-    ///   after the one before it, or does not change the correction by one second; the last record may instead repeat the correction, at any later
-    ///   time, at which the table expires;
-    /// - [`TzError::OutOfRange`] if the last transition takes effect at no instant, or the rule has no type at that instant;
-    /// - [`TzError::TimeZone`] with `InconsistentExtraRule` if the rule's type there is not that of the transition.
+    /// - [`TzError::TimeZone`] for the first transition that names no type
+    ///   (`InvalidLocalTimeTypeIndex`), or that names one and is not before the next transition
+    ///   (`InvalidTransition`);
+    /// - [`TzError::TimeZone`] with `InvalidLeapSecond` if the first leap second is before 0, or if
+    ///   another one is less than 28 days less a second after the one before it, or does not change
+    ///   the correction by one second; the last record may instead repeat the correction, at any
+    ///   later time, at which the table expires;
+    /// - [`TzError::OutOfRange`] if the last transition takes effect at no instant, or the rule has
+    ///   no type at that instant;
+    /// - [`TzError::TimeZone`] with `InconsistentExtraRule` if the rule's type there is not that of
+    ///   the transition.
     ///
-    /// The last two are checked only if there are a rule and a transition, and the last transition is not before the leap-second table begins.
+    /// The last two are checked only if there are a rule and a transition, and the last transition
+    /// is not before the leap-second table begins.
     pub fn new(
         transitions: &'a [Transition],
         local_time_types: &'a [LocalTimeType],
         leap_seconds: &'a [LeapSecond],
         extra_rule: &'a Option<TransitionRule>,
     ) -> Result<Self, TzError>
-        ensures parts { IfOk result (λ z. zone_of z ≡ zone_with transitions.now local_time_types.now leap_seconds.now extra_rule.now) }
-        ensures ok { OnOk result (IsValidZone (zone_with transitions.now local_time_types.now leap_seconds.now extra_rule.now)) }
-        ensures err { IfErr result (IsFirstZoneFault (zone_with transitions.now local_time_types.now leap_seconds.now extra_rule.now)) }
+        ensures parts { IfOk result (λ z. zone_of z ≡ zone_with transitions.now local_time_types.now
+            leap_seconds.now extra_rule.now) }
+        ensures ok { OnOk result (IsValidZone (zone_with transitions.now local_time_types.now
+            leap_seconds.now extra_rule.now)) }
+        ensures err { IfErr result (IsFirstZoneFault
+            (zone_with transitions.now local_time_types.now leap_seconds.now extra_rule.now)) }
     {
-        let rule = lent(extra_rule);
-        check_parts(transitions, local_time_types, leap_seconds, rule)?;
-        let (least_offset, greatest_offset) = offset_range(local_time_types, rule);
-        Ok(TimeZoneRef {
-            transitions,
-            local_time_types,
-            leap_seconds,
-            extra_rule,
-            least_offset,
-            greatest_offset,
-        })
+        let rule = RuleSource::Whole(extra_rule);
+        let plain = ZoneData::new(transitions, local_time_types, leap_seconds, rule)?;
+        Ok(TimeZoneRef { plain, extra_rule })
     }
 
     /// The zone with parts that are known to make one, and with its least and its greatest offset.
@@ -128,63 +123,72 @@ impl<'a> TimeZoneRef<'a> {
         least_offset: i32,
         greatest_offset: i32,
     ) -> Self
-        requires sound { IsSoundTable (zone_with transitions.now local_time_types.now leap_seconds.now extra_rule.now) }
-        requires valid { ∥ IsValidZone (zone_with transitions.now local_time_types.now leap_seconds.now extra_rule.now) ∥₁ }
-        requires offsets { ∥ AreEndOffsets (zone_with transitions.now local_time_types.now leap_seconds.now extra_rule.now) least_offset greatest_offset ∥₁ }
-        ensures { zone_of result ≡ zone_with transitions.now local_time_types.now leap_seconds.now extra_rule.now }
+        requires sound { IsSoundTable (zone_with transitions.now local_time_types.now
+            leap_seconds.now
+            extra_rule.now) }
+        requires valid { ∥ IsValidZone
+            (zone_with transitions.now local_time_types.now leap_seconds.now
+            extra_rule.now) ∥₁ }
+        requires offsets { ∥ AreEndOffsets
+            (zone_with transitions.now local_time_types.now leap_seconds.now
+            extra_rule.now) least_offset greatest_offset ∥₁ }
+        ensures { zone_of result ≡ zone_with transitions.now local_time_types.now leap_seconds.now
+            extra_rule.now }
     {
-        TimeZoneRef {
+        let plain = ZoneData::from_valid_parts(
             transitions,
             local_time_types,
             leap_seconds,
-            extra_rule,
+            RuleSource::Whole(extra_rule),
             least_offset,
             greatest_offset,
-        }
+        );
+        TimeZoneRef { plain, extra_rule }
     }
 
     /// The zone of UTC. Does not allocate.
     pub fn utc() -> TimeZoneRef<'static>
         ensures { zone_of result ≡ zone_of_type (plain_type (pos 0)) }
     {
-        TimeZoneRef {
-            transitions: &[],
-            local_time_types: tz_rule::inner::utc_types(),
-            leap_seconds: &[],
-            extra_rule: tz_rule::inner::no_rule(),
-            least_offset: 0,
-            greatest_offset: 0,
-        }
+        TimeZoneRef::from_valid_parts(
+            &[],
+            tz_rule::inner::utc_types(),
+            &[],
+            tz_rule::inner::no_rule(),
+            0,
+            0,
+        )
     }
 
     /// The transitions, in order.
     pub fn transitions(&self) -> &'a [Transition]
         ensures { result.now ≡ (zone_of self.now).transitions }
     {
-        self.transitions
+        self.plain.transitions
     }
 
     /// The local time types, which the transitions name by their numbers.
     pub fn local_time_types(&self) -> &'a [LocalTimeType]
         ensures { result.now ≡ (zone_of self.now).types }
     {
-        self.local_time_types
+        self.plain.local_time_types
     }
 
     /// The leap seconds, in order.
     pub fn leap_seconds(&self) -> &'a [LeapSecond]
         ensures { result.now ≡ (zone_of self.now).leap_seconds }
     {
-        self.leap_seconds
+        self.plain.leap_seconds
     }
 
-    /// The leap time at which the leap-second table expires: that of a last record that repeats the correction before it. `None` if there is no such
-    /// record.
+    /// The leap time at which the leap-second table expires: that of a last record that repeats the
+    /// correction before it. `None` if there is no such record.
     pub fn leap_expiry(&self) -> Option<i64>
         ensures some { IfSome result (ExpiresAt (zone_of self.now).leap_seconds) }
-        ensures none { IfNone result ((time : ℤ) → ¬ ExpiresAt (zone_of self.now).leap_seconds time) }
+        ensures none { IfNone result ((time : ℤ)
+            → ¬ ExpiresAt (zone_of self.now).leap_seconds time) }
     {
-        expiry(self.leap_seconds)
+        expiry(self.plain.leap_seconds)
     }
 
     /// The rule from the last transition on.
@@ -196,25 +200,29 @@ impl<'a> TimeZoneRef<'a> {
 
     /// The clock's type at an instant, in Unix seconds. (RFC 8536, section 3.2)
     ///
-    /// Before the first transition it is type number 0, from there up to the last one it is the type of the last transition that has been reached,
-    /// and from the last one on that of the extra rule. A zone without transitions has the type of its rule, or type number 0 if it has no rule.
+    /// Before the first transition it is type number 0, from there up to the last one it is the
+    /// type of the last transition that has been reached, and from the last one on that of the
+    /// extra rule. A zone without transitions has the type of its rule, or type number 0 if it has
+    /// no rule.
     ///
     /// # Errors
     ///
-    /// - [`TzError::NoAvailableLocalTimeType`] if the last transition has taken effect and there is no rule;
-    /// - [`TzError::OutOfRange`] if the rule is needed and is not defined in that year: an alternate rule is defined from the year `i32::MIN + 2` to
-    ///   `i32::MAX - 2` in UTC; or if the zone has transitions and the instant has no leap time, because it is before a leap-second table that begins
-    ///   late, or because the leap time does not fit an `i64`.
+    /// - [`TzError::NoAvailableLocalTimeType`] if the last transition has taken effect and there is
+    ///   no rule;
+    /// - [`TzError::OutOfRange`] if the rule is needed and is not defined in that year: an
+    ///   alternate rule is defined from the year `i32::MIN + 2` to `i32::MAX - 2` in UTC; or if the
+    ///   zone has transitions and the instant has no leap time, because it is before a leap-second
+    ///   table that begins late, or because the leap time does not fit an `i64`.
     #[inline(always)]
     pub fn find_local_time_type(&self, unix_time: i64) -> Result<&'a LocalTimeType, TzError>
         ensures ok { IfOk result (λ t. IsClock (zone_of self.now) unix_time t.now) }
         ensures err { IfErr result (IsLookupFault (zone_of self.now) unix_time) }
     {
-        let mut view = Uncounted::new(self.transitions);
-        clock::find_local_time_type(&mut view, other_parts_of(self), unix_time)
+        self.plain.find_local_time_type(unix_time)
     }
 
-    /// The clock's type at an instant, and how many transitions were read. The count saturates at `u64::MAX`.
+    /// The clock's type at an instant, and how many transitions were read. The count saturates at
+    /// `u64::MAX`.
     ///
     /// # Errors
     ///
@@ -225,20 +233,14 @@ impl<'a> TimeZoneRef<'a> {
     ) -> (Result<&'a LocalTimeType, TzError>, u64)
         ensures ok { IfOk result.0 (λ t. IsClock (zone_of self.now) unix_time t.now) }
         ensures err { IfErr result.0 (IsLookupFault (zone_of self.now) unix_time) }
-        ensures at_most { (b : ℕ) → length (zone_of self.now).transitions < 2 ^ b → result.1 ≤ b + 2 }
+        ensures at_most { (b : ℕ) → length (zone_of self.now).transitions < 2 ^ b
+            → result.1 ≤ b + 2 }
         ensures at_least_one { 0 < length (zone_of self.now).transitions → 1 ≤ result.1 }
         ensures none { (zone_of self.now).transitions ≡ [] → result.1 ≡ 0 }
     {
-        let mut view = Counted::new(self.transitions);
-        let answer = clock::find_local_time_type(&mut view, other_parts_of(self), unix_time);
+        let mut view = Counted::new(self.plain.transitions);
+        let answer = clock::find_local_time_type(&mut view, &self.plain, unix_time);
         (answer, view.looks())
-    }
-
-    /// The least and the greatest offset of the types and of the rule.
-    pub(crate) fn offsets(&self) -> (i32, i32)
-        ensures { AreEndOffsets (zone_of self.now) result.0 result.1 }
-    {
-        (self.least_offset, self.greatest_offset)
     }
 }
 
@@ -246,9 +248,9 @@ impl<'a> TimeZoneRef<'a> {
 impl fmt::Debug for TimeZoneRef<'_> {
     fn fmt<W: fmt::Write>(&self, f: &mut fmt::Formatter<W>) -> fmt::Result {
         f.debug_struct("TimeZoneRef")
-            .field("transitions", &self.transitions)
-            .field("local_time_types", &self.local_time_types)
-            .field("leap_seconds", &self.leap_seconds)
+            .field("transitions", &self.plain.transitions)
+            .field("local_time_types", &self.plain.local_time_types)
+            .field("leap_seconds", &self.plain.leap_seconds)
             .field("extra_rule", &self.extra_rule)
             .finish()
     }

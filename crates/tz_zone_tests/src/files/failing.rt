@@ -10,7 +10,8 @@ use tz_samples::refusing::Refusing;
 use tz_zone::inner::read_to_end;
 use tz_zone::timezone::read_up_to;
 
-/// A reader over bytes, which gives ten of them at most at once and fails when it was called a number of times.
+/// A reader over bytes, which gives ten of them at most at once and fails when it was called a
+/// number of times.
 #[derive(Drop)]
 struct Input<'a> {
     rest: &'a [u8],
@@ -60,7 +61,8 @@ fn a_reader_is_read_to_its_end_or_fails(rt: HostRuntime) -> Result<(), Fail> {
     Ok(())
 }
 
-/// How many of the bytes a reader over 23 bytes has left, and what was read of it, or the name of the fault.
+/// How many of the bytes a reader over 23 bytes has left, and what was read of it, or the name of
+/// the fault.
 #[test]
 fn a_reader_is_read_up_to_a_limit(rt: HostRuntime) -> Result<(), Fail> {
     const TEXT: &str = "three and twenty bytes.";
@@ -89,7 +91,8 @@ fn a_reader_is_read_up_to_a_limit(rt: HostRuntime) -> Result<(), Fail> {
     Ok(())
 }
 
-/// A reader that holds 500 bytes is read whole by a call, or the growth that was refused is its fault. Says whether one was.
+/// A reader that holds 500 bytes is read whole by a call, or the growth that was refused is its
+/// fault. Says whether one was.
 fn is_refused(rt: &impl Abort, alloc: Global, left: u64, up_to: Option<usize>) -> bool {
     let text = [b'a'; 500];
     let heap = Refusing::new(alloc, left);

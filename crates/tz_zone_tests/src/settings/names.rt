@@ -5,7 +5,7 @@ use crate::expect::{expect_eq, expect_eq_at};
 use std::alloc::{Allocator, Global};
 use std::process::Abort;
 use std::test::Fail;
-use tz_base::error::{Error, ReadFault, TzError};
+use tz_base::error::{Error, TzError};
 use tz_samples::refusing::Refusing;
 use tz_zone::timezone::TimeZone;
 
@@ -108,7 +108,8 @@ fn expect_cut(
     Ok(())
 }
 
-/// A million bytes: one part of letters is a name, which no file has, and a text that ends in `/` is none.
+/// A million bytes: one part of letters is a name, which no file has, and a text that ends in `/`
+/// is none.
 #[test]
 fn a_long_name_is_refused(rt: HostRuntime) -> Result<(), Fail> {
     let alloc = rt.alloc();
@@ -149,7 +150,8 @@ fn what_the_reader_returns_is_passed_on(rt: HostRuntime) -> Result<(), Fail> {
 const LONG_NAME: &str =
     "xxxxxxxxxxxxxxxxxxxxxxxxxxxxxxxxxxxxxxxxxxxxxxxxxxxxxxxxxxxxxxxxxxxxxxxxxxxxxxxxxxxxxxxx";
 
-/// Each allocation is refused in turn: the answer is an allocation failure or the zone, and the zone once none is refused.
+/// Each allocation is refused in turn: the answer is an allocation failure or the zone, and the
+/// zone once none is refused.
 fn expect_zone(rt: &impl Abort, alloc: Global, name: &str) -> Result<(), Fail> {
     let text = format!(in alloc; "/usr/share/zoneinfo/{name} UTC")?;
     let mut refusals = 0u64;
@@ -175,20 +177,4 @@ fn each_allocation_can_be_refused(rt: HostRuntime) -> Result<(), Fail> {
     let alloc = rt.alloc();
     expect_zone(&rt, alloc, "Etc/UTC")?;
     expect_zone(&rt, alloc, LONG_NAME)
-}
-
-#[test]
-fn a_reader_that_always_fails_is_asked_three_times(rt: HostRuntime) -> Result<(), Fail> {
-    let asked = std::cell::Cell::new(0u64);
-    let reader = |_: &str| -> Result<Vec<u8>, ReadFault> {
-        asked.set(asked.get().saturating_add(1));
-        Err(ReadFault::Failed(anyhow::anyhow!("the disk is gone")))
-    };
-    let error = TimeZone::named(rt.alloc(), reader, "x")
-        .err()
-        .ok_or("accepted")?;
-    let text = format!(in rt.alloc(); "{error}")?;
-    expect_eq(&rt, &text.as_str(), &"no time zone has the name x");
-    expect_eq(&rt, &asked.get(), &3);
-    Ok(())
 }

@@ -1,4 +1,5 @@
-//! A file with more of everything than those of the time zone database: no proof says that there is memory for it.
+//! A file with more of everything than those of the time zone database: no proof says that there is
+//! memory for it.
 
 use super::*;
 use crate::expect::expect_eq;
@@ -10,7 +11,8 @@ const LEAP_SECONDS: u32 = 40;
 
 const TRANSITIONS: u32 = 100_000;
 
-/// The leap time of the transition or the leap second at a place: each comes 30 days after the one before it.
+/// The leap time of the transition or the leap second at a place: each comes 30 days after the one
+/// before it.
 fn leap_time_at(place: u32) -> i64 {
     i64::from(place) * 2_592_000
 }

@@ -1,4 +1,4 @@
-//! Files as compilers of time zones lay them out: fat ones, slim ones, and ones with leap seconds.
+//! Files as compilers of time zones lay them out: fat ones, and ones with leap seconds.
 
 use super::*;
 use crate::expect::{expect_eq, expect_eq_at};
@@ -6,8 +6,8 @@ use std::num::TryFromIntError;
 use tz_samples::rules::central_europe;
 use tz_samples::zones::{ExtraRule, ZoneRow, zone_of, zone_with_rule};
 
-/// What a unit holds: transitions with their types, types with the places of their names, names, leap seconds, and both lists of
-/// indicators, which are alike.
+/// What a unit holds: transitions with their types, types with the places of their names, names,
+/// leap seconds, and both lists of indicators, which are alike.
 #[derive(Clone, Copy)]
 struct Unit<'a> {
     transitions: &'a [(i64, usize)],
@@ -35,32 +35,6 @@ static FAT: Unit<'static> = Unit {
     names: b"LMT\0CET\0CEST\0",
     leap_seconds: &[],
     indicators: &[0, 1, 1],
-};
-
-/// The first block of a slim file: one type and one name byte, since there have to be some.
-static NOTHING: Unit<'static> = Unit {
-    transitions: &[],
-    types: &[(0, 0, 0)],
-    names: b"\0",
-    leap_seconds: &[],
-    indicators: &[],
-};
-
-/// The transitions of the east of the United States that the rule does not have.
-const SLIM_TRANSITIONS: &[(i64, usize)] = &[
-    (utc!(1883-11-18 17:00:00), 2),
-    (utc!(2006-04-02 07:00:00), 1),
-    (utc!(2006-10-29 06:00:00), 2),
-    (utc!(2007-03-11 07:00:00), 1),
-];
-
-/// The east of the United States, with the transitions alone that the rule does not have.
-static SLIM: Unit<'static> = Unit {
-    transitions: SLIM_TRANSITIONS,
-    types: &[(-17_762, 0, 0), (-14_400, 1, 4), (-18_000, 0, 8)],
-    names: b"LMT\0EDT\0EST\0",
-    leap_seconds: &[],
-    indicators: &[],
 };
 
 /// The transitions of Great Britain from 1972 to 1974, whose times count leap seconds.
@@ -220,42 +194,6 @@ fn times_of_four_bytes_are_read(rt: HostRuntime) -> Result<(), Fail> {
     let after = zone.find_local_time_type(LAST_TRANSITION).err().map(named);
     expect_eq(&rt, &after, &Some(Fault::NoType));
     Ok(())
-}
-
-/// The zone of the slim file.
-fn slim_zone(alloc: Global) -> Result<TimeZone, Fail> {
-    static ZONE: ZoneRow = ZoneRow {
-        transitions: SLIM_TRANSITIONS,
-        types: &[
-            (-17_762, false, Some(b"LMT")),
-            (-14_400, true, Some(b"EDT")),
-            (-18_000, false, Some(b"EST")),
-        ],
-        leap_seconds: &[],
-        extra_rule: Some(ExtraRule::Alternate((
-            (-18_000, false, Some(b"EST")),
-            (-14_400, true, Some(b"EDT")),
-            (Day::Month(3, 2, 0), 7200),
-            (Day::Month(11, 1, 0), 7200),
-        ))),
-    };
-    Ok(zone_of(alloc, &ZONE)?)
-}
-
-#[test]
-fn a_slim_file_is_read(rt: HostRuntime) -> Result<(), Fail> {
-    static OFFSETS: [(i64, i32); 6] = [
-        (utc!(1883-11-18 16:59:59), -17_762),
-        (utc!(1883-11-18 17:00:00), -18_000),
-        (utc!(2007-03-11 06:59:59), -18_000),
-        (utc!(2007-03-11 07:00:00), -14_400),
-        (utc!(2007-11-04 05:59:59), -14_400),
-        (utc!(2007-11-04 06:00:00), -18_000),
-    ];
-    let bytes = file(rt.alloc(), &NOTHING, &SLIM, b"\nEST5EDT,M3.2.0,M11.1.0\n")?;
-    let zone = TimeZone::from_tz_data(rt.alloc(), &bytes)?;
-    assert!(rt; zone == slim_zone(rt.alloc())?);
-    expect_offsets(&rt, &zone, &OFFSETS)
 }
 
 /// The zone of the file with leap seconds.

@@ -1,37 +1,8 @@
-//! Texts near good ones: their beginnings, and texts with one byte replaced. The answers are those of tz-rs.
+//! Texts near good ones that are none: their beginnings, and texts with one byte replaced. What
+//! refuses them is as in tz-rs.
 
 use super::*;
 use crate::expect::expect_eq_at;
-
-/// Ordinary texts, and what they denote: each type's name and offset from UTC, then each change's day and time of day, in seconds.
-static ORDINARY_READ: &str = "\
-HST1 | HST -3600
-HST10 | HST -36000
-<-03>3 | -03 -10800
-IST-1 | IST 3600
-IST-1GMT0,M10.5.0,M3.5.0 | IST 3600, GMT 0, M10.5.0 7200, M3.5.0 7200
-IST-1GMT0,M10.5.0,M3.5.0/1 | IST 3600, GMT 0, M10.5.0 7200, M3.5.0 3600
-EST5EDT,0/0,J3 | EST -18000, EDT -14400, 0 0, J3 7200
-EST5EDT,0/0,J36 | EST -18000, EDT -14400, 0 0, J36 7200
-EST5EDT,0/0,J365 | EST -18000, EDT -14400, 0 0, J365 7200
-EST5EDT,0/0,J365/2 | EST -18000, EDT -14400, 0 0, J365 7200
-EST5EDT,0/0,J365/23 | EST -18000, EDT -14400, 0 0, J365 82800
-EST5EDT,0/0,J365/23:5 | EST -18000, EDT -14400, 0 0, J365 83100
-EST5EDT,0/0,J365/23:59 | EST -18000, EDT -14400, 0 0, J365 86340
-EST5EDT,0/0,J365/23:59:5 | EST -18000, EDT -14400, 0 0, J365 86345
-EST5EDT,0/0,J365/23:59:59 | EST -18000, EDT -14400, 0 0, J365 86399
-xST-1GMT0,M10.5.0,M3.5.0/1 | xST 3600, GMT 0, M10.5.0 7200, M3.5.0 3600
-IST+1GMT0,M10.5.0,M3.5.0/1 | IST -3600, GMT 0, M10.5.0 7200, M3.5.0 3600
-IST-9GMT0,M10.5.0,M3.5.0/1 | IST 32400, GMT 0, M10.5.0 7200, M3.5.0 3600
-IST-1GMT0,M10.5.0,M9.5.0/1 | IST 3600, GMT 0, M10.5.0 7200, M9.5.0 3600
-IST-2GMT0,M10.5.0,M3.5.0/1 | IST 7200, GMT 0, M10.5.0 7200, M3.5.0 3600
-IST-1xMT0,M10.5.0,M3.5.0/1 | IST 3600, xMT 0, M10.5.0 7200, M3.5.0 3600
-IST-1GMM0,M10.5.0,M3.5.0/1 | IST 3600, GMM 0, M10.5.0 7200, M3.5.0 3600
-IST-1GMT0,M10.5.6,M3.5.0/1 | IST 3600, GMT 0, M10.5.6 7200, M3.5.0 3600
-IST-1GMT0,M10.5.0,M3.5.0/9 | IST 3600, GMT 0, M10.5.0 7200, M3.5.0 32400
-EST5EDT,9/0,J365/23:59:59 | EST -18000, EDT -14400, 9 0, J365 86399
-A0B,J100/24:59:59,J200 | A 0, B 3600, J100 89999, J200 7200
-";
 
 /// What refuses a text, then ordinary texts that are refused so.
 static ORDINARY_REFUSED: &str = "\
@@ -155,22 +126,6 @@ invalid TZ string: invalid day time second
 EST5EDT,0/0,J365/23:59:69
 ";
 
-/// Extended texts, and what they denote.
-static EXTENDED_READ: &str = "\
-<-03>3<-02>,M3.5.0/-2,M10.5.0 | -03 -10800, -02 -7200, M3.5.0 -7200, M10.5.0 7200
-<-03>3<-02>,M3.5.0/-2,M10.5.0/-1 | -03 -10800, -02 -7200, M3.5.0 -7200, M10.5.0 -3600
-<-03>3<-02>,M3.5.0/+2,M10.5.0/-1 | -03 -10800, -02 -7200, M3.5.0 7200, M10.5.0 -3600
-<-03>3<-02>,M3.5.0/-9,M10.5.0/-1 | -03 -10800, -02 -7200, M3.5.0 -32400, M10.5.0 -3600
-<-03>3<-02>,M3.5.0/-2,M10.5.0/11 | -03 -10800, -02 -7200, M3.5.0 -7200, M10.5.0 39600
-<-03>3<-02>,M3.5.0/-2,M10.5.0/+1 | -03 -10800, -02 -7200, M3.5.0 -7200, M10.5.0 3600
-EST5EDT,0/0,J365 | EST -18000, EDT -14400, 0 0, J365 7200
-EST5EDT,0/0,J365/2 | EST -18000, EDT -14400, 0 0, J365 7200
-EST5EDT,0/0,J365/25 | EST -18000, EDT -14400, 0 0, J365 90000
-A0B,J100/167,J200 | A 0, B 3600, J100 601200, J200 7200
-A0B,J100/-167:59:59,J200 | A 0, B 3600, J100 -604799, J200 7200
-A0B,J100,J200/167:59:59 | A 0, B 3600, J100 7200, J200 604799
-";
-
 /// What refuses a text, then extended texts that are refused so.
 static EXTENDED_REFUSED: &str = "\
 invalid TZ string: cannot parse integer from empty string
@@ -261,12 +216,10 @@ fn expect_refusals(
 
 #[test]
 fn texts_near_ordinary_ones(rt: HostRuntime) -> Result<(), Fail> {
-    expect_rules(&rt, rt.alloc(), ORDINARY_READ, false)?;
     expect_refusals(&rt, rt.alloc(), ORDINARY_REFUSED, false)
 }
 
 #[test]
 fn texts_near_extended_ones(rt: HostRuntime) -> Result<(), Fail> {
-    expect_rules(&rt, rt.alloc(), EXTENDED_READ, true)?;
     expect_refusals(&rt, rt.alloc(), EXTENDED_REFUSED, true)
 }

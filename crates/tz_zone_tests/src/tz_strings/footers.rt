@@ -1,7 +1,6 @@
 //! The texts in the footers of the time zone database's files, and the rules that they denote.
 
 use super::*;
-use crate::expect::expect_eq_at;
 use tz_samples::files::without_transitions;
 use tz_samples::footers::{extended_footers, ordinary_footers};
 use tz_zone::timezone::TimeZone;
@@ -26,26 +25,6 @@ fn version_2_refuses_extended_footers(rt: HostRuntime) -> Result<(), Fail> {
         let (text, _) = parts_of(row)?;
         let is_refused = is_refused_by_version_2(rt.alloc(), text)?;
         assert!(rt; is_refused, "{text}");
-    }
-    Ok(())
-}
-
-#[test]
-fn settings_read_ordinary_footers(rt: HostRuntime) -> Result<(), Fail> {
-    for row in ordinary_footers().lines() {
-        let (text, _) = parts_of(row)?;
-        let rule = extended_rule(rt.alloc(), text)?;
-        assert!(rt; rule.is_some());
-        expect_eq_at(&rt, &text, &ordinary_rule(rt.alloc(), text)?, &rule);
-    }
-    Ok(())
-}
-
-#[test]
-fn settings_refuse_extended_footers(rt: HostRuntime) -> Result<(), Fail> {
-    for row in extended_footers().lines() {
-        let (text, _) = parts_of(row)?;
-        assert!(rt; ordinary_rule(rt.alloc(), text).is_err(), "{text}");
     }
     Ok(())
 }

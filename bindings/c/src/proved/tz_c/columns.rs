@@ -5,21 +5,22 @@ use crate::proved::tz_c::codes::{
     BUFFER_LENGTH, INVALID_NANOSECONDS, NO_DATE_TIME, OK, OUT_OF_RANGE, UNKNOWN_CHOICE, code_of,
 };
 use crate::proved::tz_c::searches::choice_of;
+use crate::proved::tz_c::zone_data::ZoneData;
 use tz::proved::tz::datetime::Disambiguation;
 use tz::proved::tz::inner::{DateTimeData, Fields, find_one, local_reading};
 use tz::proved::tz_base::constants::{NANOSECONDS_PER_SECOND, SECONDS_PER_DAY};
 use tz::proved::tz_base::error::TzError;
 use tz::proved::tz_rule::timezone::LocalTimeType;
-use tz::proved::tz_zone::inner::ZoneData;
 use tz::proved::tz_zone::timezone::Segment;
 
-/// The segment of the zone's clock that holds an instant: the one before, if it holds the instant too.
+/// The segment of the zone's clock that holds an instant: the one before, if it holds the instant
+/// too.
 #[inline(always)]
 fn segment_around<'a>(zone: &ZoneData<'a>, before: Segment<'a>, unix_time: i64) -> Segment<'a> {
     if before.contains(unix_time) {
         before
     } else {
-        zone.segment_at(unix_time)
+        zone.lent().segment_at(unix_time)
     }
 }
 
@@ -32,7 +33,7 @@ fn type_in<'a>(
 ) -> Result<&'a LocalTimeType, TzError> {
     match segment.local_time_type() {
         Some(local_time_type) => Ok(local_time_type),
-        None => zone.find_local_time_type(unix_time),
+        None => zone.lent().find_local_time_type(unix_time),
     }
 }
 
@@ -101,7 +102,8 @@ fn fields_in(day: &Day, second_of_day: u32, nanoseconds: u32) -> Fields {
     }
 }
 
-/// What the zone's clock shows at an instant of a segment. The day is that of the instant before, and then that of this one.
+/// What the zone's clock shows at an instant of a segment. The day is that of the instant before,
+/// and then that of this one.
 #[inline(always)]
 fn date_time_in(
     zone: &ZoneData<'_>,
@@ -137,9 +139,9 @@ fn instant_of(
     zone: &ZoneData<'_>,
     out: &mut i64,
 ) -> u32 {
-    match find_one(fields, disambiguation, zone) {
+    match find_one(fields, disambiguation, &zone.lent()) {
         Ok(Some(date_time)) => {
-            *out = date_time.unix_time();
+            *out = DateTimeData::of(&date_time).unix_time;
             OK
         }
         Ok(None) => NO_DATE_TIME,
@@ -158,7 +160,9 @@ pub fn tz_column_offsets(
     if offsets.len() != unix_times.len() || codes.len() != unix_times.len() {
         return BUFFER_LENGTH;
     }
-    let mut segment = zone.segment_at(unix_times.first().copied().unwrap_or(0));
+    let mut segment = zone
+        .lent()
+        .segment_at(unix_times.first().copied().unwrap_or(0));
     for i in 0..unix_times.len() {
         segment = segment_around(zone, segment, unix_times[i]);
         codes[i] = offset_in(zone, &segment, unix_times[i], &mut offsets[i]);
@@ -181,7 +185,9 @@ pub fn tz_column_date_times(
     {
         return BUFFER_LENGTH;
     }
-    let mut segment = zone.segment_at(unix_times.first().copied().unwrap_or(0));
+    let mut segment = zone
+        .lent()
+        .segment_at(unix_times.first().copied().unwrap_or(0));
     let mut day = day_of(0);
     for i in 0..unix_times.len() {
         segment = segment_around(zone, segment, unix_times[i]);

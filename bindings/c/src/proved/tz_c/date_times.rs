@@ -1,12 +1,13 @@
 // Generated from crates/tz_c/src/date_times.rt by bindings/erase: its contracts are cut. Change that file instead.
-//! Date times of local time types and of zones.
+//! Date times of a zone and of UTC, and their texts.
 
 use crate::proved::tz_c::codes::{INVALID_NANOSECONDS, OK, OUT_OF_RANGE, code_of};
+use crate::proved::tz_c::zone_data::ZoneData;
+use core::time::Duration;
 use tz::proved::tz::inner::{DateTimeData, Fields, UtcData, local_reading};
-use tz::proved::tz::{DateTime, UtcDateTime};
+use tz::proved::tz::{DateTime, DateTimePart, ParsedDateTime, UtcDateTime};
 use tz::proved::tz_base::constants::NANOSECONDS_PER_SECOND;
 use tz::proved::tz_rule::timezone::LocalTimeType;
-use tz::proved::tz_zone::inner::ZoneData;
 
 /// The date time with the fields, which the type shows.
 #[inline(always)]
@@ -61,7 +62,7 @@ pub fn tz_date_time_from_timespec(
     if nanoseconds >= NANOSECONDS_PER_SECOND {
         return INVALID_NANOSECONDS;
     }
-    let local_time_type = match zone.find_local_time_type(unix_time) {
+    let local_time_type = match zone.lent().find_local_time_type(unix_time) {
         Ok(local_time_type) => local_time_type,
         Err(error) => return code_of(&error),
     };
@@ -98,4 +99,139 @@ pub fn tz_date_time_week_day(date_time: &DateTime) -> u8 {
 #[inline(always)]
 pub fn tz_date_time_year_day(date_time: &DateTime) -> u16 {
     date_time.year_day()
+}
+
+/// The date time of UTC with the fields.
+#[inline(always)]
+pub fn tz_utc_new(fields: &Fields, out: &mut UtcData) -> u32 {
+    match UtcDateTime::new(
+        fields.year,
+        fields.month,
+        fields.month_day,
+        fields.hour,
+        fields.minute,
+        fields.second,
+        fields.nanoseconds,
+    ) {
+        Ok(date_time) => {
+            *out = UtcData::of(&date_time);
+            OK
+        }
+        Err(error) => code_of(&error),
+    }
+}
+
+/// The date time of UTC at an instant.
+#[inline(always)]
+pub fn tz_utc_from_timespec(unix_time: i64, nanoseconds: u32, out: &mut UtcData) -> u32 {
+    match UtcDateTime::from_timespec(unix_time, nanoseconds) {
+        Ok(date_time) => {
+            *out = UtcData::of(&date_time);
+            OK
+        }
+        Err(error) => code_of(&error),
+    }
+}
+
+/// The date time of UTC a duration later.
+#[inline(always)]
+pub fn tz_utc_add(utc: &UtcDateTime, seconds: u64, nanoseconds: u32, out: &mut UtcData) -> u32 {
+    if nanoseconds >= NANOSECONDS_PER_SECOND {
+        return INVALID_NANOSECONDS;
+    }
+    match utc.checked_add(Duration::new(seconds, nanoseconds)) {
+        Some(date_time) => {
+            *out = UtcData::of(&date_time);
+            OK
+        }
+        None => OUT_OF_RANGE,
+    }
+}
+
+/// The date time of UTC a duration earlier.
+#[inline(always)]
+pub fn tz_utc_sub(utc: &UtcDateTime, seconds: u64, nanoseconds: u32, out: &mut UtcData) -> u32 {
+    if nanoseconds >= NANOSECONDS_PER_SECOND {
+        return INVALID_NANOSECONDS;
+    }
+    match utc.checked_sub(Duration::new(seconds, nanoseconds)) {
+        Some(date_time) => {
+            *out = UtcData::of(&date_time);
+            OK
+        }
+        None => OUT_OF_RANGE,
+    }
+}
+
+/// The week day, from Sunday = 0 to 6.
+#[inline(always)]
+pub fn tz_utc_week_day(utc: &UtcDateTime) -> u8 {
+    utc.week_day()
+}
+
+/// Days since January 1st, from 0 to 365.
+#[inline(always)]
+pub fn tz_utc_year_day(utc: &UtcDateTime) -> u16 {
+    utc.year_day()
+}
+
+/// What a text says: a local time, and an offset, which is zero if the text has none.
+#[repr(C)]
+#[derive(Clone, Copy)]
+pub struct ParsedData {
+    pub(crate) local: UtcData,
+    pub(crate) ut_offset: i32,
+    pub(crate) has_offset: bool,
+}
+
+impl ParsedData {
+    /// The data of what is read.
+    fn of(parsed: &ParsedDateTime) -> Self {
+        let local = UtcData::of(&parsed.local());
+        match parsed.ut_offset() {
+            Some(ut_offset) => ParsedData {
+                local,
+                ut_offset,
+                has_offset: true,
+            },
+            None => ParsedData {
+                local,
+                ut_offset: 0,
+                has_offset: false,
+            },
+        }
+    }
+}
+
+/// The code of a part that a text does not have.
+pub(crate) fn part_code(part: DateTimePart) -> u32 {
+    match part {
+        DateTimePart::Year => 128,
+        DateTimePart::Hyphen => 129,
+        DateTimePart::Month => 130,
+        DateTimePart::MonthDay => 131,
+        DateTimePart::Separator => 132,
+        DateTimePart::Hour => 133,
+        DateTimePart::Colon => 134,
+        DateTimePart::Minute => 135,
+        DateTimePart::Second => 136,
+        DateTimePart::Fraction => 137,
+        DateTimePart::Offset => 138,
+        DateTimePart::OffsetHour => 139,
+        DateTimePart::OffsetMinute => 140,
+        DateTimePart::OffsetSecond => 141,
+        DateTimePart::End => 142,
+    }
+}
+
+/// The local time and the offset of a text, as `ParsedDateTime::parse` reads it.
+#[inline(always)]
+pub fn tz_date_time_read(text: &[u8], out: &mut ParsedData) -> u32 {
+    match ParsedDateTime::parse(text) {
+        Ok(parsed) => {
+            *out = ParsedData::of(&parsed);
+            OK
+        }
+        Err(error) => part_code(error.expected),
+    }
 }

@@ -5,7 +5,7 @@ use crate::proved::tz_c::codes::{BUFFER_LENGTH, OK, code_of, file_code};
 use crate::proved::tz_c::zones::OffsetsData;
 use tz::proved::tz_rule::inner::RuleData;
 use tz::proved::tz_rule::timezone::LocalTimeType;
-use tz::proved::tz_zone::inner::{FileSizes, file_sizes, offsets, parse_posix_tz};
+use tz::proved::tz_zone::inner::{FileSizes, file_sizes, parse_posix_tz, plain};
 use tz::proved::tz_zone::timezone::{LeapSecond, TimeZone, Transition};
 use tz::shim::alloc::Global;
 
@@ -21,7 +21,7 @@ pub fn tz_file_sizes(bytes: &[u8], out: &mut FileSizes) -> u32 {
     }
 }
 
-/// The parts of a TZif file and the end offsets of its zone.
+/// The parts of a TZif file, and the least and the greatest offset of its zone.
 #[inline(always)]
 pub fn tz_file_read(
     alloc: Global,
@@ -45,7 +45,7 @@ pub fn tz_file_read(
             local_time_types.copy_from_slice(read.local_time_types());
             leap_seconds.copy_from_slice(read.leap_seconds());
             *rule = RuleData::of(read.extra_rule());
-            let (least, greatest) = offsets(&read);
+            let (least, greatest) = plain(&read).offsets();
             *out = OffsetsData { least, greatest };
             OK
         }

@@ -1,9 +1,67 @@
 // Generated from crates/tz_c/src/rules.rt by bindings/erase: its contracts are cut. Change that file instead.
-//! Rules.
+//! Local time types, rule days and alternate rules.
 
-use crate::proved::tz_c::codes::{NO_CONFLICT, NO_RULE, OK, OUT_OF_RANGE, rule_code};
+use crate::proved::tz_c::codes::{NO_CONFLICT, NO_RULE, OK, OUT_OF_RANGE, rule_code, type_code};
 use tz::proved::tz_rule::inner::{AlternateData, DayData, RuleRef, find_local_time_type};
-use tz::proved::tz_rule::timezone::LocalTimeType;
+use tz::proved::tz_rule::timezone::{
+    Julian0WithLeap, Julian1WithoutLeap, LocalTimeType, MonthWeekDay, RuleDay,
+};
+
+/// The local time type with these parts, as `LocalTimeType::new` makes it.
+#[inline(always)]
+pub fn tz_local_time_type_new(
+    ut_offset: i32,
+    is_dst: bool,
+    has_name: bool,
+    name: &[u8],
+    out: &mut LocalTimeType,
+) -> u32 {
+    let name = if has_name { Some(name) } else { None };
+    match LocalTimeType::new(ut_offset, is_dst, name) {
+        Ok(local_time_type) => {
+            *out = local_time_type;
+            OK
+        }
+        Err(error) => type_code(error),
+    }
+}
+
+/// The day with this number of the days that are not February 29th, as `Julian1WithoutLeap::new`
+/// makes it.
+#[inline(always)]
+pub fn tz_julian_1_new(julian_day_1: u16, out: &mut DayData) -> u32 {
+    match Julian1WithoutLeap::new(julian_day_1) {
+        Ok(day) => {
+            *out = DayData::of(&RuleDay::Julian1WithoutLeap(day));
+            OK
+        }
+        Err(error) => rule_code(error),
+    }
+}
+
+/// The day this many days after January 1st, as `Julian0WithLeap::new` makes it.
+#[inline(always)]
+pub fn tz_julian_0_new(julian_day_0: u16, out: &mut DayData) -> u32 {
+    match Julian0WithLeap::new(julian_day_0) {
+        Ok(day) => {
+            *out = DayData::of(&RuleDay::Julian0WithLeap(day));
+            OK
+        }
+        Err(error) => rule_code(error),
+    }
+}
+
+/// The week day of a month, as `MonthWeekDay::new` makes it.
+#[inline(always)]
+pub fn tz_month_week_day_new(month: u8, week: u8, week_day: u8, out: &mut DayData) -> u32 {
+    match MonthWeekDay::new(month, week, week_day) {
+        Ok(day) => {
+            *out = DayData::of(&RuleDay::MonthWeekDay(day));
+            OK
+        }
+        Err(error) => rule_code(error),
+    }
+}
 
 /// Years that show why parts make no rule.
 #[repr(C)]

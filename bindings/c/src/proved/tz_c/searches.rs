@@ -2,9 +2,9 @@
 //! Searches for date times.
 
 use crate::proved::tz_c::codes::{NO_DATE_TIME, OK, UNKNOWN_CHOICE, code_of};
+use crate::proved::tz_c::zone_data::ZoneData;
 use tz::proved::tz::datetime::Disambiguation;
 use tz::proved::tz::inner::{DateTimeData, Fields, FoundData, find_into, find_one};
-use tz::proved::tz_zone::inner::ZoneData;
 
 /// What is found of the fields from one of the entries on, and how many entries there are.
 #[inline(always)]
@@ -15,7 +15,7 @@ pub fn tz_find_n(
     slots: &mut [FoundData],
     count: &mut usize,
 ) -> u32 {
-    match find_into(slots, skip, fields, zone) {
+    match find_into(slots, skip, fields, &zone.lent()) {
         Ok(found) => {
             *count = found;
             OK
@@ -46,7 +46,7 @@ pub fn tz_find_one(
     let Some(disambiguation) = choice_of(choice) else {
         return UNKNOWN_CHOICE;
     };
-    match find_one(fields, disambiguation, zone) {
+    match find_one(fields, disambiguation, &zone.lent()) {
         Ok(Some(date_time)) => {
             *out = DateTimeData::of(&date_time);
             OK

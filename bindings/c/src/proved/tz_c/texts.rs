@@ -1,12 +1,16 @@
 // Generated from crates/tz_c/src/texts.rt by bindings/erase: its contracts are cut. Change that file instead.
-//! Printed text.
+//! TZ strings, names of zones and settings.
 
-use crate::proved::tz_c::codes::{BUFFER_LENGTH, NO_RULE, NO_TZ_STRING, OK};
+use crate::proved::tz_c::codes::{
+    BUFFER_LENGTH, EMPTY_STRING, INVALID_NAME, NO_RULE, NO_TZ_STRING, OK,
+};
 use crate::proved::tz_c::rules::rule_of_lists;
+use core::str;
 use tz::proved::tz::inner::{TextBuffer, UtcData, fields_of};
 use tz::proved::tz::{DateTime, TzString, UtcDateTime};
 use tz::proved::tz_rule::inner::AlternateData;
 use tz::proved::tz_rule::timezone::LocalTimeType;
+use tz::proved::tz_zone::timezone::is_zone_name;
 
 /// Copies a text to a buffer and stores its length, if there is room.
 #[inline(always)]
@@ -51,4 +55,59 @@ pub fn tz_rule_text(
         Some(string) => write_text(string.as_str().as_bytes(), text, len),
         None => NO_TZ_STRING,
     }
+}
+
+/// Whether the text is a name of a time zone, as `is_zone_name` returns.
+#[inline(always)]
+pub fn tz_name_check(name: &[u8]) -> u32 {
+    match str::from_utf8(name) {
+        Ok(text) => {
+            if is_zone_name(text) {
+                OK
+            } else {
+                INVALID_NAME
+            }
+        }
+        Err(_) => INVALID_NAME,
+    }
+}
+
+/// What a setting asks for.
+#[repr(C)]
+#[derive(Clone, Copy)]
+pub struct SettingData {
+    /// 0: the machine's local time, 1: a file, 2: a file or a TZ string.
+    kind: u32,
+    /// Where its name begins.
+    from: usize,
+    /// Where it ends.
+    until: usize,
+}
+
+/// Whether the text means the machine's local time.
+fn is_local_time(text: &[u8]) -> bool {
+    text == b"localtime".as_slice()
+}
+
+/// What a setting asks for.
+#[inline(always)]
+pub fn tz_setting_read(text: &[u8], out: &mut SettingData) -> u32 {
+    if text.is_empty() {
+        return EMPTY_STRING;
+    }
+    if is_local_time(text) {
+        *out = SettingData {
+            kind: 0,
+            from: 0,
+            until: 0,
+        };
+        return OK;
+    }
+    let is_file = text[0] == b':';
+    *out = SettingData {
+        kind: if is_file { 1 } else { 2 },
+        from: if is_file { 1 } else { 0 },
+        until: text.len(),
+    };
+    OK
 }

@@ -2,9 +2,10 @@
 //! Zones.
 
 use crate::proved::tz_c::codes::{NO_CHANGE, OK, code_of};
-use tz::proved::tz_rule::inner::AlternateData;
+use crate::proved::tz_c::zone_data::ZoneData;
+use tz::proved::tz_rule::inner::{AlternateData, RuleRef};
 use tz::proved::tz_rule::timezone::LocalTimeType;
-use tz::proved::tz_zone::inner::ZoneData;
+use tz::proved::tz_zone::inner::{self, RuleSource, effect, leap};
 use tz::proved::tz_zone::timezone::{Change, LeapSecond, Segment, Transition};
 
 /// Parts that may make a zone.
@@ -80,12 +81,11 @@ impl ChangeData {
 /// Whether parts make a zone, as `TimeZoneRef::new` checks them, and its end offsets.
 #[inline(always)]
 pub fn tz_zone_check(parts: &PartsData<'_>, out: &mut OffsetsData) -> u32 {
-    match ZoneData::new(
+    match inner::ZoneData::new(
         parts.transitions,
         parts.local_time_types,
         parts.leap_seconds,
-        parts.fixed,
-        parts.alternate,
+        RuleSource::Listed(parts.fixed, parts.alternate),
     ) {
         Ok(zone) => {
             let (least, greatest) = zone.offsets();
@@ -99,7 +99,7 @@ pub fn tz_zone_check(parts: &PartsData<'_>, out: &mut OffsetsData) -> u32 {
 /// The type of a zone's clock at an instant, as `TimeZoneRef::find_local_time_type` finds it.
 #[inline(always)]
 pub fn tz_zone_type_at(zone: &ZoneData<'_>, unix_time: i64, out: &mut LocalTimeType) -> u32 {
-    match zone.find_local_time_type(unix_time) {
+    match zone.lent().find_local_time_type(unix_time) {
         Ok(local_time_type) => {
             *out = *local_time_type;
             OK
@@ -111,14 +111,14 @@ pub fn tz_zone_type_at(zone: &ZoneData<'_>, unix_time: i64, out: &mut LocalTimeT
 /// The segment around an instant, as `TimeZoneRef::segment_at` finds it.
 #[inline(always)]
 pub fn tz_zone_segment_at(zone: &ZoneData<'_>, unix_time: i64, out: &mut SegmentData) -> u32 {
-    *out = SegmentData::of(&zone.segment_at(unix_time));
+    *out = SegmentData::of(&zone.lent().segment_at(unix_time));
     OK
 }
 
 /// The first change after an instant, as `TimeZoneRef::following` finds it.
 #[inline(always)]
 pub fn tz_zone_following(zone: &ZoneData<'_>, unix_time: i64, out: &mut ChangeData) -> u32 {
-    match zone.following(unix_time) {
+    match zone.lent().following(unix_time) {
         Some(change) => {
             *out = ChangeData::of(&change);
             OK
@@ -130,11 +130,80 @@ pub fn tz_zone_following(zone: &ZoneData<'_>, unix_time: i64, out: &mut ChangeDa
 /// The last change before an instant, as `TimeZoneRef::preceding` finds it.
 #[inline(always)]
 pub fn tz_zone_preceding(zone: &ZoneData<'_>, unix_time: i64, out: &mut ChangeData) -> u32 {
-    match zone.preceding(unix_time) {
+    match zone.lent().preceding(unix_time) {
         Some(change) => {
             *out = ChangeData::of(&change);
             OK
         }
         None => NO_CHANGE,
+    }
+}
+
+/// The first index of a type in a list.
+fn index_in(types: &[LocalTimeType], local_time_type: &LocalTimeType) -> Option<usize> {
+    for index in 0..types.len() {
+        if types[index] == *local_time_type {
+            return Some(index);
+        }
+    }
+    None
+}
+
+/// The first index of one of a rule's types among them.
+fn index_in_rule(rule: Option<RuleRef<'_>>, local_time_type: &LocalTimeType) -> usize {
+    match rule {
+        Some(RuleRef::Alternate(rule)) => {
+            if rule.std() == local_time_type {
+                0
+            } else {
+                1
+            }
+        }
+        _ => 0,
+    }
+}
+
+/// The first index of one of a zone's types among those of its list and of its rule.
+fn index_of(zone: &ZoneData<'_>, local_time_type: &LocalTimeType) -> usize {
+    let types = zone.parts.local_time_types;
+    match index_in(types, local_time_type) {
+        Some(index) => index,
+        None => types.len() + index_in_rule(zone.lent().rule(), local_time_type),
+    }
+}
+
+/// The index of the type of a zone's clock at an instant.
+#[inline(always)]
+pub fn tz_zone_place_at(zone: &ZoneData<'_>, unix_time: i64, out: &mut usize) -> u32 {
+    match zone.lent().find_local_time_type(unix_time) {
+        Ok(local_time_type) => {
+            *out = index_of(zone, local_time_type);
+            OK
+        }
+        Err(error) => code_of(&error),
+    }
+}
+
+/// The leap time of an instant.
+#[inline(always)]
+pub fn tz_zone_leap_time(zone: &ZoneData<'_>, unix_time: i64, out: &mut i64) -> u32 {
+    match leap(zone.parts.leap_seconds, unix_time) {
+        Ok(leap_time) => {
+            *out = leap_time;
+            OK
+        }
+        Err(error) => code_of(&error),
+    }
+}
+
+/// The least instant at which a leap time is reached.
+#[inline(always)]
+pub fn tz_zone_effect(zone: &ZoneData<'_>, leap_time: i64, out: &mut i64) -> u32 {
+    match effect(zone.parts.leap_seconds, leap_time) {
+        Ok(unix_time) => {
+            *out = unix_time;
+            OK
+        }
+        Err(error) => code_of(&error),
     }
 }

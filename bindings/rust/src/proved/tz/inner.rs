@@ -1,16 +1,15 @@
 // Generated from crates/tz/src/inner.rt by bindings/erase: its contracts are cut. Change that file instead.
-//! For the crates above and their tests, and no part of the public surface: fields, text, the search for them, date times as plain data, and how
-//! bytes are read.
+//! For the crates above and their tests, and no part of the public surface: fields, text, the
+//! search for them, date times as plain data, and how bytes are read.
 
-pub use crate::proved::tz::datetime::date_time::fields_of;
-pub use crate::proved::tz::datetime::date_time_data::{DateTimeData, FoundData, UtcData};
+pub use crate::proved::tz::datetime::date_time::{DateTimeData, FoundData, UtcData, fields_of};
 pub use crate::proved::tz::datetime::disambiguation::find_one;
-pub use crate::proved::tz::datetime::entry_takers::EntryTaker;
+pub use crate::proved::tz::datetime::ends::{Ends, FewEntries, ends_by_types};
 pub use crate::proved::tz::datetime::find::find_fields;
-pub use crate::proved::tz::datetime::search::{search_zone, window_of};
+pub use crate::proved::tz::datetime::search::{types_of_window, window_of};
 pub use crate::proved::tz::datetime::zone_data_searches::{find_into, from_timespec};
-pub use crate::proved::tz::parse::number::{read_digits, value_of};
+pub use crate::proved::tz::parse::date_and_time::{read_digits, value_of};
 pub use crate::proved::tz::print::middle_of;
 pub use crate::proved::tz::text_buffer::{TextBuffer, two_pairs};
 pub use crate::proved::tz_base::fields::{Fields, is_reading, local_reading};
-pub use crate::proved::tz_zone::inner::{after_byte, read_to_end};
+pub use crate::proved::tz_zone::inner::{WindowTypes, after_byte, plain, read_to_end};

@@ -4,7 +4,8 @@
 use crate::proved::tz::text_buffer::{TextBuffer, pair_of};
 use crate::proved::tz_base::fields::Fields;
 
-/// What stands between the year and the nanoseconds: month and day, and the time of day up to the point.
+/// What stands between the year and the nanoseconds: month and day, and the time of day up to the
+/// point.
 #[inline(always)]
 pub fn middle_of(fields: &Fields) -> [u8; 16] {
     let (month, day) = (pair_of(fields.month), pair_of(fields.month_day));

@@ -16,9 +16,9 @@ static PAIRS: [u8; 200] =
 /// The two digits of a number below 100.
 #[inline(always)]
 pub fn pair_of(number: u8) -> [u8; 2] {
-    let place = usize::from(number) * 2;
+    let position = usize::from(number) * 2;
     let mut pair = [0; 2];
-    pair.copy_from_slice(&PAIRS[place..place + 2]);
+    pair.copy_from_slice(&PAIRS[position..position + 2]);
     pair
 }
 

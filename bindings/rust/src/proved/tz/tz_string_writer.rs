@@ -5,7 +5,8 @@ use crate::proved::tz::text_buffer::TextBuffer;
 use crate::proved::tz_zone::timezone::{AlternateTime, LocalTimeType, RuleDay, TransitionRule};
 use core::fmt;
 
-/// The TZ string of a rule, which is made without an allocation. (POSIX.1-2017, Base Definitions, 8.3)
+/// The TZ string of a rule, which is made without an allocation. (POSIX.1-2017, Base Definitions,
+/// 8.3)
 pub struct TzString {
     text: TextBuffer,
 }
@@ -100,7 +101,8 @@ fn push_day(buffer: &mut TextBuffer, day: &RuleDay) {
     }
 }
 
-/// Appends when one of the two times begins: a comma, the day, and after a slash the time of day, unless it is two o'clock.
+/// Appends when one of the two times begins: a comma, the day, and after a slash the time of day,
+/// unless it is two o'clock.
 fn push_switch(buffer: &mut TextBuffer, day: &RuleDay, time: i32) {
     buffer.push(b',');
     push_day(buffer, day);
@@ -116,7 +118,8 @@ fn push_name_and_offset(buffer: &mut TextBuffer, local_time_type: &LocalTimeType
     push_offset(buffer, local_time_type.ut_offset());
 }
 
-/// Appends the daylight name, its offset unless it is an hour more than the standard one, the start and the end.
+/// Appends the daylight name, its offset unless it is an hour more than the standard one, the start
+/// and the end.
 fn push_daylight(buffer: &mut TextBuffer, rule: &AlternateTime) {
     push_name(buffer, rule.dst().time_zone_designation());
     if rule.dst().ut_offset() != rule.std().ut_offset() + DEFAULT_SAVING {
@@ -152,12 +155,14 @@ fn is_writable(rule: &TransitionRule) -> bool {
 }
 
 impl TzString {
-    /// The TZ string of the rule, or `None` if no TZ string denotes it: a type has no name, its daylight flag does not match its role, or
-    /// its offset is 25 hours or more in either direction and not the default.
+    /// The TZ string of the rule, or `None` if no TZ string denotes it: a type has no name, its
+    /// daylight flag does not match its role, or its offset is 25 hours or more in either direction
+    /// and not the default.
     ///
-    /// The string is extended only if the rule has a time of day below 0:00 or above 24:59:59. Names of three letters or more are written
-    /// without angle brackets. Minutes and seconds that are zero, the time of day 2:00, and a daylight offset of an hour more than the
-    /// standard one are omitted. (POSIX.1-2017, Base Definitions, 8.3; RFC 8536, section 3.3.1)
+    /// The string is extended only if the rule has a time of day below 0:00 or above 24:59:59.
+    /// Names of three letters or more are written without angle brackets. Minutes and seconds that
+    /// are zero, the time of day 2:00, and a daylight offset of an hour more than the standard one
+    /// are omitted. (POSIX.1-2017, Base Definitions, 8.3; RFC 8536, section 3.3.1)
     ///
     /// The TZ string of the rule of a zone, if it has one:
     ///

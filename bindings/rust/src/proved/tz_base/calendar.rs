@@ -1,8 +1,10 @@
 // Generated from crates/tz_base/src/calendar.rt by bindings/erase: its contracts are cut. Change that file instead.
-//! The proleptic Gregorian calendar over all years of 32 bits: leap years, the lengths of months, week days, and days by number and back.
+//! The proleptic Gregorian calendar over all years of 32 bits: leap years, the lengths of months,
+//! week days, and days by number and back.
 //!
-//! Years are moved by cycles of 400 years, so that none is negative. A cycle has 146097 days, which are whole weeks, so a moved year has the months
-//! and the week days of the year that it stands for.
+//! Years are moved by cycles of 400 years, so that none is negative. A cycle has 146097 days, which
+//! are whole weeks, so a moved year has the months and the week days of the year that it stands
+//! for.
 
 use crate::proved::tz_base::constants::{
     CUMUL_DAYS_IN_MONTHS_LEAP_YEAR, CUMUL_DAYS_IN_MONTHS_NORMAL_YEAR, DAYS_PER_400_YEARS,
@@ -50,7 +52,8 @@ pub const fn is_leap_year(year: i32) -> bool {
     is_moved_year_leap(moved_year(year))
 }
 
-/// Whether a moved year is leap. One that is divisible by 100 is divisible by 400 exactly if it is by 16.
+/// Whether a moved year is leap. One that is divisible by 100 is divisible by 400 exactly if it is
+/// by 16.
 #[inline(always)]
 pub const fn is_moved_year_leap(years: u64) -> bool {
     if 100 * centuries_before(years) == years {
@@ -60,7 +63,8 @@ pub const fn is_moved_year_leap(years: u64) -> bool {
     }
 }
 
-/// How many years before a moved year are divisible by 100. A multiplication and a shift stand for the division.
+/// How many years before a moved year are divisible by 100. A multiplication and a shift stand for
+/// the division.
 #[inline(always)]
 const fn centuries_before(years: u64) -> u64 {
     1_374_389_535 * (years + 99) / 137_438_953_472
@@ -121,13 +125,14 @@ const fn days_from_march(month: u8) -> u64 {
     DAYS_FROM_MARCH[index] as u64
 }
 
-/// The year, moved as by `moved_year`, whose March 1st is the last one up to the month: the year itself from March on, and the one before in January
-/// and February.
+/// The year, moved as by `moved_year`, whose March 1st is the last one up to the month: the year
+/// itself from March on, and the one before in January and February.
 const fn moved_march_year(year: i32, month: u8) -> u64 {
     moved_year(year) - (month < 3) as u64
 }
 
-/// The days of a number of years, the first of which begins on March 1st of a year that 400 divides.
+/// The days of a number of years, the first of which begins on March 1st of a year that 400
+/// divides.
 ///
 /// A multiplication and a shift stand for a division by 100.
 const fn days_of_march_years(years: u64) -> u64 {
@@ -135,7 +140,8 @@ const fn days_of_march_years(years: u64) -> u64 {
     1461 * years / 4 - centuries + centuries / 4
 }
 
-/// The number of the day, where 1970-01-01 has the number 0. A day past the end of its month counts on.
+/// The number of the day, where 1970-01-01 has the number 0. A day past the end of its month counts
+/// on.
 pub const fn days_since_unix_epoch(year: i32, month: u8, month_day: u8) -> i64 {
     let days_before = days_of_march_years(moved_march_year(year, month)) + days_from_march(month);
     (days_before + month_day as u64) as i64 - ADDED_MARCH_DAYS
@@ -146,8 +152,8 @@ pub const fn week_day_of_day(day: i64) -> u8 {
     (day + 4).rem_euclid(7) as u8
 }
 
-/// The year, of those that begin on March 1st, in which a day lies, and the day's place in it, from 0. The given day and the year are counted from
-/// March 1st of a year that 400 divides.
+/// The year, of those that begin on March 1st, in which a day lies, and the day's place in it, from
+/// 0. The given day and the year are counted from March 1st of a year that 400 divides.
 const fn march_year(day: u64) -> (u64, u64) {
     let quarters = 4 * day + 3;
     let century = quarters / 146_097;
@@ -156,15 +162,18 @@ const fn march_year(day: u64) -> (u64, u64) {
     (100 * century + year, quarters_of_century % 1461 / 4)
 }
 
-/// The month of a day of a year that begins on March 1st, from 3 to 14, and the day of that month, from 0.
+/// The month of a day of a year that begins on March 1st, from 3 to 14, and the day of that month,
+/// from 0.
 const fn month_of_march_day(day: u32) -> (u8, u8) {
     let parts = 2141 * day + 197_913;
     ((parts / 65_536) as u8, (parts % 65_536 / 2141) as u8)
 }
 
-/// The year, the month and the day of the month of a day that is counted from January 1st of the year -2147484000.
+/// The year, the month and the day of the month of a day that is counted from January 1st of the
+/// year -2147484000.
 pub(crate) const fn date_of_day(day: u64) -> (i32, u8, u8) {
-    // In that year, which is leap, March 1st comes 60 days after January 1st. In any year, the next January 1st comes 306 days after March 1st.
+    // In that year, which is leap, March 1st comes 60 days after January 1st. In any year, the next
+    // January 1st comes 306 days after March 1st.
     let (march_year, day_of_year) = march_year(day - 60);
     let (month, month_day) = month_of_march_day(day_of_year as u32);
     if day_of_year < 306 {

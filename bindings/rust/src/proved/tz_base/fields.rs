@@ -1,7 +1,8 @@
 // Generated from crates/tz_base/src/fields.rt by bindings/erase: its contracts are cut. Change that file instead.
 //! The seven fields of a date time: their check, their reading, and the fields of a reading.
 //!
-//! A reading counts the seconds from 1970-01-01 00:00:00 to the fields of a date time, whatever clock shows them.
+//! A reading counts the seconds from 1970-01-01 00:00:00 to the fields of a date time, whatever
+//! clock shows them.
 
 use crate::proved::tz_base::calendar::{
     date_of_day, days_before_month, days_since_unix_epoch, has_month_day, is_leap_year,
@@ -80,8 +81,8 @@ impl Fields {
     ///
     /// # Errors
     ///
-    /// The variant of the first field that is out of range, in the order of the fields, or else [`DateTimeError::InvalidMonthDay`] if the month does
-    /// not have the day.
+    /// The variant of the first field that is out of range, in the order of the fields, or else
+    /// [`DateTimeError::InvalidMonthDay`] if the month does not have the day.
     pub const fn check(&self) -> Result<(), DateTimeError> {
         if self.month < 1 || self.month > 12 {
             return Err(DateTimeError::InvalidMonth);
@@ -107,7 +108,8 @@ impl Fields {
         Ok(())
     }
 
-    /// The seconds from 1970-01-01 00:00:00 to the fields. Second 60 reads as the next minute's first second.
+    /// The seconds from 1970-01-01 00:00:00 to the fields. Second 60 reads as the next minute's
+    /// first second.
     pub const fn reading(&self) -> i64 {
         let second_of_day = 3600 * self.hour as u32 + 60 * self.minute as u32 + self.second as u32;
         SECONDS_PER_DAY * self.day() + second_of_day as i64

@@ -8,7 +8,8 @@ pub const fn total_nanoseconds(unix_time: i64, nanoseconds: u32) -> i128 {
     NANOSECONDS_PER_SECOND as i128 * unix_time as i128 + nanoseconds as i128
 }
 
-/// The seconds of a total of nanoseconds, rounded down, and the nanoseconds that remain, if the seconds fit 64 bits.
+/// The seconds of a total of nanoseconds, rounded down, and the nanoseconds that remain, if the
+/// seconds fit 64 bits.
 pub const fn timespec(total: i128) -> Option<(i64, u32)> {
     let nanoseconds_per_second = NANOSECONDS_PER_SECOND as i128;
     let seconds = total.div_euclid(nanoseconds_per_second);

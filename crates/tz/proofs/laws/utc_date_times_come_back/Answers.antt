@@ -5,4 +5,9 @@ use Rattle.tz.proofs.laws.utc_date_times_come_back.Goals as goal
 
 pub returns-clause-ok : goal.returns-clause-ok
 returns-clause-ok c f g utc below civil =
-    civil_unique _ f.nanoseconds g f civil (record { valid = utc.valid; below_60 = below; reads = refl; nanoseconds_are = refl })
+    civil_unique _ f.nanoseconds g f civil (record {
+      valid = utc.valid;
+      below_60 = below;
+      reads = refl;
+      nanoseconds_are = refl;
+    })

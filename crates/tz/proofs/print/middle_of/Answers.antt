@@ -25,4 +25,5 @@ pub returns-clause-ascii : goal.returns-clause-ascii
 returns-clause-ascii c =
     let in_range = c.requires.in_range in
     subst IsAscii (sym (returns-clause-text c))
-    (middle_text-ascii c.args.fields.now (omega (arith, in_range.month)) (omega (arith, in_range.month_day)) (omega (arith, in_range.hour)) (omega (arith, in_range.minute)) (omega (arith, in_range.second)))
+    (middle_text-ascii c.args.fields.now (omega (arith, in_range.month)) (omega (arith, in_range.month_day))
+    (omega (arith, in_range.hour)) (omega (arith, in_range.minute)) (omega (arith, in_range.second)))

@@ -1,4 +1,4 @@
--- The bytes at the number's place are its digits.
+-- The bytes at the number's position are its digits.
 use Rattle.std.proofs.Common.{◌≡◌, ◌+◌, ◌-◌, ◌*◌, arith, sym, ◌∙◌}
 use Rattle.tz.proofs.DigitPairs.{pair_is}
 use Rattle.tz.proofs.PrintedDigits.{two_digits-below}
@@ -8,5 +8,5 @@ pub returns : goal.returns
 returns c =
     let number = c.args.number in
     let two : number * 2 + 2 - number * 2 ≡ 2 = omega arith in
-    let copied = rw (c.from-place.ensures, two) at c.copy_from_slice.ensures.after in
+    let copied = rw (c.from-position.ensures, two) at c.copy_from_slice.ensures.after in
     copied ∙ pair_is number c.requires ∙ sym (two_digits-below number c.requires)

@@ -15,11 +15,26 @@ returns-clause-text c =
     let dst_is = rw c.dst-2.ensures at c.ut_offset.ensures.value in
     let std_fits = to_z-of_z w32 c.ut_offset-2.result (search rules) in
     let dst_fits = to_z-of_z w32 c.ut_offset.result (search rules) in
-    let offset : c.if-ut_offset.buffer ≡ c.push_name.new.buffer ++ daylight_offset_text std dst = elim c.if-ut_offset.branch [
+    let offset : c.if-ut_offset.buffer ≡ c.push_name.new.buffer ++ daylight_offset_text std dst =
+    elim c.if-ut_offset.branch [
       | then-ut_offset w ↦
-          rw (w.buffer-is, w.push_offset.ensures.text, to_z-of_z w32 w.ut_offset-then-ut_offset.result (search rules), w.ut_offset-then-ut_offset.ensures.value, w.dst-then-ut_offset.ensures, daylight_offset_text-other std dst (λ e. absurd (omega (arith, ints, w.if-ut_offset.true, std_is, dst_is, std_fits, dst_fits)))) refl
+          rw (
+            w.buffer-is,
+            w.push_offset.ensures.text,
+            to_z-of_z w32 w.ut_offset-then-ut_offset.result
+                (search rules),
+            w.ut_offset-then-ut_offset.ensures.value,
+            w.dst-then-ut_offset.ensures,
+            daylight_offset_text-other std dst (λ e.
+                absurd (omega (arith, ints, w.if-ut_offset.true, std_is, dst_is, std_fits, dst_fits))),
+          ) refl
       | else-ut_offset w ↦
-          rw (w.buffer-is, daylight_offset_text-default std dst (omega (arith, ints, w.if-ut_offset.false, std_is, dst_is, std_fits, dst_fits))) (sym (append-nil c.push_name.new.buffer))
+          rw (
+            w.buffer-is,
+            daylight_offset_text-default std dst
+                (omega (arith, ints, w.if-ut_offset.false, std_is, dst_is, std_fits, dst_fits)),
+          )
+          (sym (append-nil c.push_name.new.buffer))
     ] in
     rw (
       c.push_switch-2.ensures.text,

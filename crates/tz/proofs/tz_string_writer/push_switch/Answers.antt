@@ -7,8 +7,23 @@ use Rattle.tz.proofs.tz_string_writer.push_switch.Goals as goal
 
 pub returns-then-time-ne-DEFAULT_TIME-clause-text : goal.returns-then-time-ne-DEFAULT_TIME-clause-text
 returns-then-time-ne-DEFAULT_TIME-clause-text c =
-    rw (c.push_time.ensures.text, c.push-then-time-ne-DEFAULT_TIME.ensures.text, c.push_day.ensures.text, c.push.ensures.text, to_z-of_z w32 c.args.time c.ranges.time, time_of_day_text-other c.args.time (λ e. absurd (omega (arith, ints)))) (simp append_assoc)
+    rw (
+      c.push_time.ensures.text,
+      c.push-then-time-ne-DEFAULT_TIME.ensures.text,
+      c.push_day.ensures.text,
+      c.push.ensures.text,
+      to_z-of_z w32 c.args.time c.ranges.time,
+      time_of_day_text-other c.args.time
+          (λ e. absurd (omega (arith, ints))),
+    ) (simp append_assoc)
 
 pub returns-else-time-ne-DEFAULT_TIME-clause-text : goal.returns-else-time-ne-DEFAULT_TIME-clause-text
 returns-else-time-ne-DEFAULT_TIME-clause-text c =
-    rw (c.push_day.ensures.text, c.push.ensures.text, time_of_day_text-default c.args.time (omega (arith, ints)), append-nil, append_assoc) refl
+    rw (
+      c.push_day.ensures.text,
+      c.push.ensures.text,
+      time_of_day_text-default c.args.time
+          (omega (arith, ints)),
+      append-nil,
+      append_assoc,
+    ) refl

@@ -7,19 +7,25 @@ use Rattle.tz_base.proofs.calendar.days_before_month.Goals as goal
 pub overflow_cast-result : goal.overflow_cast-result
 overflow_cast-result c =
     let found = months_length-entry true (c.args.month - 1) (omega arith) in
-    rw (c.from-index.ensures, found.0) (omega (arith, ints))
+    rw found.0 (omega (arith, ints))
 
 pub overflow_cast-result-else-leap : goal.overflow_cast-result-else-leap
 overflow_cast-result-else-leap c =
     let found = months_length-entry false (c.args.month - 1) (omega arith) in
-    rw (c.from-index.ensures, found.0) (omega (arith, ints))
+    rw found.0 (omega (arith, ints))
 
 pub returns-then-leap : goal.returns-then-leap
 returns-then-leap c =
     let found = months_length-entry true (c.args.month - 1) (omega arith) in
-    rw (c.if-leap.true, c.from-index.ensures, found.0) (record { value = omega (arith, ints); bound = omega (arith, ints) })
+    rw (c.if-leap.true, found.0) (record {
+      value = omega (arith, ints);
+      bound = omega (arith, ints);
+    })
 
 pub returns-else-leap : goal.returns-else-leap
 returns-else-leap c =
     let found = months_length-entry false (c.args.month - 1) (omega arith) in
-    rw (c.if-leap.false, c.from-index.ensures, found.0) (record { value = omega (arith, ints); bound = omega (arith, ints) })
+    rw (c.if-leap.false, found.0) (record {
+      value = omega (arith, ints);
+      bound = omega (arith, ints);
+    })

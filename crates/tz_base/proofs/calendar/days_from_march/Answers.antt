@@ -5,9 +5,8 @@ use Rattle.tz_base.proofs.calendar.days_from_march.Goals as goal
 
 pub returns : goal.returns
 returns c =
-    rw (c.from.ensures, c.from-index.ensures)
-    (record {
+    record {
       early = λ early leap. (days_from_march-is leap (c.args.month - 1) (omega arith)).early (omega arith);
       late = λ late leap. (days_from_march-is leap (c.args.month - 1) (omega arith)).late (omega arith);
       bound = (days_from_march-is false (c.args.month - 1) (omega arith)).bound;
-    })
+    }

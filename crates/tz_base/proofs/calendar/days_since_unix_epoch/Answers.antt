@@ -11,11 +11,19 @@ returns-clause-value c =
     let early = rw same at c.moved_march_year.ensures.early in
     let late = rw same at c.moved_march_year.ensures.late in
     let days = c.days_from_march.ensures in
-    let day = march_day_is c.args.year c.moved_march_year.result c.args.month c.args.month_day c.days_from_march.result early late days.early days.late in
-    omega (arith, ints, c.days_of_march_years.ensures.value, c.days_of_march_years.ensures.bound, days.bound, c.from.ensures)
+    let day = march_day_is c.args.year c.moved_march_year.result c.args.month c.args.month_day c.days_from_march.result
+    early late days.early days.late in
+    omega (
+      arith,
+      ints,
+      c.days_of_march_years.ensures.value,
+      c.days_of_march_years.ensures.bound,
+      days.bound,
+    )
 
 pub returns-clause-bound : goal.returns-clause-bound
 returns-clause-bound c =
-    let bounds = day_number_bounds c.args.year c.args.month c.args.month_day c.ranges.year c.requires.month.0 c.requires.month.1 c.requires.month_day (omega arith) in
+    let bounds = day_number_bounds c.args.year c.args.month c.args.month_day c.ranges.year c.requires.month.0
+    c.requires.month.1 c.requires.month_day (omega arith) in
     let value = returns-clause-value c in
     (omega (arith, ints), omega (arith, ints))

@@ -7,4 +7,5 @@ use Rattle.tz_base.proofs.calendar.is_leap_year.Goals as goal
 
 pub returns : goal.returns
 returns c =
-    c.is_moved_year_leap.ensures ∙ sym (is_leap-moved c.args.year c.moved_year.result 5368710 (sym (rw (to_z-of_z w32 c.args.year c.ranges.year) at c.moved_year.ensures.value)))
+    c.is_moved_year_leap.ensures ∙ sym (is_leap-moved c.args.year c.moved_year.result 5368710
+    (sym (rw (to_z-of_z w32 c.args.year c.ranges.year) at c.moved_year.ensures.value)))

@@ -14,5 +14,6 @@ returns-then-centuries_before-years c =
 pub returns-else-centuries_before-years : goal.returns-else-centuries_before-years
 unfolding is_leap
 returns-else-centuries_before-years c =
-    let others : c.args.years % 100 ≢ 0 = λ e. c.if-centuries_before-years.false (omega (arith, c.centuries_before.ensures, e)) in
+    let others : c.args.years % 100 ≢ 0 = λ e. c.if-centuries_before-years.false
+    (omega (arith, c.centuries_before.ensures, e)) in
     grind (arith, nat_tests, others)

@@ -1,4 +1,5 @@
--- The type is the clock's at the instant that was passed, and the faults are the lookup's, or what the type shows is no reading.
+-- The type is the clock's at the instant that was passed, and the faults are the lookup's, or what the type shows is no
+-- reading.
 use Rattle.std.proofs.Common.{◌≡◌, ◌<◌, ◌≤◌, inl, inr, refl, rules, ◌+ℤ◌}
 use Rattle.std.proofs.lemmas.Int.{to_z-of_z}
 use Rattle.tz_base.specs.Fields.{IsCivil, IsReading}
@@ -8,7 +9,8 @@ use mir.Syntax.{w32, w64}
 use mir.Val.{SFits}
 use Rattle.tz_c.proofs.columns.date_time_in.Goals as goal
 
-pub returns-then-nanoseconds-ge-NANOSECONDS_PER_SECOND-clause-answer : goal.returns-then-nanoseconds-ge-NANOSECONDS_PER_SECOND-clause-answer
+pub returns-then-nanoseconds-ge-NANOSECONDS_PER_SECOND-clause-answer :
+    goal.returns-then-nanoseconds-ge-NANOSECONDS_PER_SECOND-clause-answer
 returns-then-nanoseconds-ge-NANOSECONDS_PER_SECOND-clause-answer c =
     let many : 1000000000 ≤ c.args.nanoseconds = search rules in
     inr (faults.DateTime field_faults.InvalidNanoseconds, refl, inl (refl, many))
@@ -26,7 +28,12 @@ returns-in_default-clause-answer c =
     let is_clock = rw (to_z-of_z w64 c.args.unix_time c.ranges.unix_time) at c.in-Ok.ensures.ok in
     let fits : SFits w32 c.ut_offset.result = search rules in
     let none : ¬ IsReading (c.args.unix_time +ℤ t.ut_offset) =
-    rw (to_z-of_z w64 c.args.unix_time c.ranges.unix_time, to_z-of_z w32 c.ut_offset.result fits, c.ut_offset.ensures.value) at c.in_default.ensures.none in
+    rw (
+      to_z-of_z w64 c.args.unix_time c.ranges.unix_time,
+      to_z-of_z w32 c.ut_offset.result
+          fits,
+      c.ut_offset.ensures.value,
+    ) at c.in_default.ensures.none in
     inr (faults.OutOfRange, refl, inr (inr (refl, few, (t, is_clock, none))))
 
 pub returns-clause-answer : goal.returns-clause-answer
@@ -36,9 +43,25 @@ returns-clause-answer c =
     let is_clock = rw (to_z-of_z w64 c.args.unix_time c.ranges.unix_time) at c.in-Ok.ensures.ok in
     let offset_fits : SFits w32 c.ut_offset.result = search rules in
     let shown : reading ≡ c.args.unix_time +ℤ t.ut_offset =
-    rw (to_z-of_z w64 c.args.unix_time c.ranges.unix_time, to_z-of_z w32 c.ut_offset.result offset_fits, c.ut_offset.ensures.value) at c.in-Some.ensures.some.0 in
+    rw (
+      to_z-of_z w64 c.args.unix_time c.ranges.unix_time,
+      to_z-of_z w32 c.ut_offset.result
+          offset_fits,
+      c.ut_offset.ensures.value,
+    ) at c.in-Some.ensures.some.0 in
     let reading_fits : SFits w64 reading = search rules in
     let value = rw (to_z-of_z w64 reading reading_fits, shown) at c.second_in.ensures.value in
-    let civil : IsCivil (c.args.unix_time +ℤ t.ut_offset) c.args.nanoseconds c.fields_in.result = rw value at c.fields_in.ensures in
+    let civil : IsCivil (c.args.unix_time +ℤ t.ut_offset) c.args.nanoseconds c.fields_in.result =
+    rw value at c.fields_in.ensures in
     rw (to_z-of_z w64 c.args.unix_time c.ranges.unix_time)
-    (inl (refl, (record { valid = civil.valid; reads = civil.reads }, (t, is_clock, record { civil = civil; type_is = refl; instant_is = refl }))))
+    (inl (
+      refl,
+      (
+        record { valid = civil.valid; reads = civil.reads },
+        (
+          t,
+          is_clock,
+          record { civil = civil; type_is = refl; instant_is = refl },
+        ),
+      ),
+    ))

@@ -9,5 +9,16 @@ returns-clause-within c =
     let range = c.from_reading-date.ensures.valid.in_range in
     let below = c.from_reading-date.ensures.below_60 in
     let low : pos 0 ≤ℤ c.from-4.result = omega (arith, ints, c.from-4.ensures) in
-    let high : c.from-4.result <ℤ pos 86400 = omega (arith, ints, c.from-4.ensures, c.from-3.ensures, c.from-2.ensures, c.from.ensures, range.hour, range.minute, below) in
+    let high : c.from-4.result <ℤ pos 86400 =
+    omega (
+      arith,
+      ints,
+      c.from-4.ensures,
+      c.from-3.ensures,
+      c.from-2.ensures,
+      c.from.ensures,
+      range.hour,
+      range.minute,
+      below,
+    ) in
     start_before c.args.reading c.from-4.result c.ranges.reading c.requires low high

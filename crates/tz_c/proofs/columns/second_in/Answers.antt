@@ -14,7 +14,11 @@ overflow_cast-result c =
     let low : pos 0 ≤ℤ (x -ℤ s) = omega (arith, ints, c.requires.within.0) in
     let high : (x -ℤ s) <ℤ pos 86400 = omega (arith, ints, c.requires.within.1) in
     let second = second_of (x -ℤ s) low high in
-    rw (difference x s c.ranges.reading fits c.requires.in_range c.requires.day.bound.0 c.requires.day.bound.1, second.1) (search (rules, second.2))
+    rw (
+      difference x s c.ranges.reading fits c.requires.in_range c.requires.day.bound.0
+          c.requires.day.bound.1,
+      second.1,
+    ) (search (rules, second.2))
 
 pub returns-clause-value : goal.returns-clause-value
 returns-clause-value c =
@@ -24,7 +28,11 @@ returns-clause-value c =
     let low : pos 0 ≤ℤ (x -ℤ s) = omega (arith, ints, c.requires.within.0) in
     let high : (x -ℤ s) <ℤ pos 86400 = omega (arith, ints, c.requires.within.1) in
     let second = second_of (x -ℤ s) low high in
-    rw (difference x s c.ranges.reading fits c.requires.in_range c.requires.day.bound.0 c.requires.day.bound.1, second.1) (omega (arith, ints, second.1))
+    rw (
+      difference x s c.ranges.reading fits c.requires.in_range c.requires.day.bound.0
+          c.requires.day.bound.1,
+      second.1,
+    ) (omega (arith, ints, second.1))
 
 pub returns-clause-below : goal.returns-clause-below
 returns-clause-below c =
@@ -34,4 +42,8 @@ returns-clause-below c =
     let low : pos 0 ≤ℤ (x -ℤ s) = omega (arith, ints, c.requires.within.0) in
     let high : (x -ℤ s) <ℤ pos 86400 = omega (arith, ints, c.requires.within.1) in
     let second = second_of (x -ℤ s) low high in
-    rw (difference x s c.ranges.reading fits c.requires.in_range c.requires.day.bound.0 c.requires.day.bound.1, second.1) second.2
+    rw (
+      difference x s c.ranges.reading fits c.requires.in_range c.requires.day.bound.0
+          c.requires.day.bound.1,
+      second.1,
+    ) second.2

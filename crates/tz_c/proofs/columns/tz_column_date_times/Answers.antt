@@ -1,10 +1,10 @@
--- Each turn answers one place more.
+-- Each turn answers one index more.
 use Rattle.std.proofs.Common.{◌≡◌, ◌≤◌, inl, refl, rules, arith, length, slice_index_or, pos}
 use Rattle.std.proofs.lemmas.Int.{to_z-of_z}
 use Rattle.std.proofs.lemmas.Option.{get_or_from_slice_get}
 use mir.Syntax.{w64}
 use mir.Val.{SFits}
-use Rattle.tz_zone.specs.ZoneOfData.{zone_of_data}
+use Rattle.tz_c.specs.ZoneOfData.{zone_of_data}
 use Rattle.tz_c.specs.Columns.{IsDateTimeAt}
 use Rattle.tz_c.proofs.AnswersInTurn.{one_more, all_of}
 use Rattle.tz_c.proofs.columns.tz_column_date_times.Goals as goal
@@ -22,13 +22,23 @@ loop-i-preserved c =
     rw (to_z-of_z w64 (slice_index_or unix_times i (pos 0)) fits, seconds, rest) at c.date_time_in.ensures.answer in (
       c.segment_around-segment.ensures.segment,
       c.date_time_in.ensures.day,
-      one_more answer_at c.args.date_times.now c.loop-i.date_times c.loop-i.codes i c.date_time_in.result c.date_time_in.new.out _ c.loop-i.invariant.2
+      one_more answer_at c.args.date_times.now c.loop-i.date_times c.loop-i.codes i c.date_time_in.result
+          c.date_time_in.new.out _ c.loop-i.invariant.2
           (omega (arith, c.if-date_times-unix_times.false, c.loop-i-test.true)) answer c.date_time_in.ensures.kept,
     )
 
 pub returns-clause-answer : goal.returns-clause-answer
 returns-clause-answer c =
-    let all : length c.args.date_times.now ≤ c.loop-i.i = omega (arith, c.if-date_times-unix_times.false, c.loop-i-test.false) in
-    let answers = all_of (IsDateTimeAt (zone_of_data c.args.zone.now) c.args.unix_times.now c.args.nanoseconds.now) c.args.date_times.now c.loop-i.date_times c.loop-i.codes c.loop-i.i
+    let all : length c.args.date_times.now ≤ c.loop-i.i =
+    omega (arith, c.if-date_times-unix_times.false, c.loop-i-test.false) in
+    let answers = all_of (IsDateTimeAt (zone_of_data c.args.zone.now) c.args.unix_times.now c.args.nanoseconds.now)
+    c.args.date_times.now c.loop-i.date_times c.loop-i.codes c.loop-i.i
     c.loop-i.invariant.2 all in
-    inl (refl, (c.if-nanoseconds-unix_times.false, (c.if-date_times-unix_times.false, c.if-codes-unix_times.false), answers))
+    inl (
+      refl,
+      (
+        c.if-nanoseconds-unix_times.false,
+        (c.if-date_times-unix_times.false, c.if-codes-unix_times.false),
+        answers,
+      ),
+    )

@@ -1,6 +1,6 @@
--- The segment is one of the zone's clock, the day is one, and the places before the index are answered.
+-- The segment is one of the zone's clock, the day is one, and the indexes before the index are answered.
 use Rattle.tz_zone.specs.Changes.{IsTrueSegment, segment_of}
-use Rattle.tz_zone.specs.ZoneOfData.{zone_of_data}
+use Rattle.tz_c.specs.ZoneOfData.{zone_of_data}
 use Rattle.tz_c.specs.Columns.{IsDateTimeAt, IsDay}
 use Rattle.tz_c.proofs.AnswersInTurn.{AreAnswersUpTo}
 use Rattle.tz_c.proofs.columns.tz_column_date_times.Given as goal
@@ -8,4 +8,5 @@ use Rattle.tz_c.proofs.columns.tz_column_date_times.Given as goal
 abbrev pub invariant-loop-i : goal.invariant-loop-i
 invariant-loop-i l =
     IsTrueSegment (zone_of_data l.zone) (segment_of l.segment) × IsDay l.day
-    × AreAnswersUpTo (IsDateTimeAt (zone_of_data l.zone) l.unix_times l.nanoseconds) l.initial.date_times l.date_times l.codes l.i
+    × AreAnswersUpTo (IsDateTimeAt (zone_of_data l.zone) l.unix_times l.nanoseconds) l.initial.date_times l.date_times
+    l.codes l.i

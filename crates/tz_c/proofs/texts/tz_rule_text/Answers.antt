@@ -8,4 +8,5 @@ pub returns-in-None-clause-answer : goal.returns-in-None-clause-answer
 returns-in-None-clause-answer c =
     let text = c.args.text.now in
     let some = c.in-Some.ensures in
-    subst (λ (o : Option TransitionRule). IsRuleTextAnswer o 6 text text c.args.len.now) (sym some) (inl (refl, rw c.rule.ensures at c.in-None.ensures.none))
+    subst (λ (o : Option TransitionRule). IsRuleTextAnswer o 6 text text c.args.len.now) (sym some)
+    (inl (refl, rw c.rule.ensures at c.in-None.ensures.none))

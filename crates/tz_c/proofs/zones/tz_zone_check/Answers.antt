@@ -13,4 +13,5 @@ returns-in-Ok-clause-answer c =
     let fits_least : SFits w32 ends.result.0 = search rules in
     let fits_greatest : SFits w32 ends.result.1 = search rules in
     let are = subst (λ (z : Zone). AreEndOffsets z ends.result.0 ends.result.1) c.in-Ok.ensures.parts ends.ensures in
-    rw (to_z-of_z w32 ends.result.0 fits_least, to_z-of_z w32 ends.result.1 fits_greatest) (inl (refl, (c.in-Ok.ensures.ok, are)))
+    rw (to_z-of_z w32 ends.result.0 fits_least, to_z-of_z w32 ends.result.1 fits_greatest)
+    (inl (refl, (c.in-Ok.ensures.ok, are)))

@@ -1,8 +1,9 @@
--- Each type has a place below the number of types.
+-- Each type has a position below the number of types.
 use Rattle.std.proofs.Common.{arith}
 use Rattle.std.proofs.lemmas.Option.{slice_get_within}
 use Rattle.tz_zone.proofs.laws.listed_types_are_sound.Goals as goal
 
 pub returns : goal.returns
 returns c = λ i t at.
-    c.loop-local_time_type.invariant i t (omega (arith, slice_get_within c.args.local_time_types.now i t at, c.loop-local_time_type-test.false)) at
+    c.loop-local_time_type.invariant i t (omega
+    (arith, slice_get_within c.args.local_time_types.now i t at, c.loop-local_time_type-test.false)) at

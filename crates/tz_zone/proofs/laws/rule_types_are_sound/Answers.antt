@@ -19,4 +19,5 @@ returns-in-Alternate c =
     let std = c.type_parts_are_sound-in-Alternate.ensures in
     let dst = c.type_parts_are_sound-in-Alternate-2.ensures in
     of_rule_type IsSound c.args.rule.now
-    (subst (HoldsOfRule IsSound) (sym c.in-Alternate.is) (subst IsSound c.std.ensures (std.sound, std.fits), subst IsSound c.dst.ensures (dst.sound, dst.fits)))
+    (subst (HoldsOfRule IsSound) (sym c.in-Alternate.is)
+    (subst IsSound c.std.ensures (std.sound, std.fits), subst IsSound c.dst.ensures (dst.sound, dst.fits)))

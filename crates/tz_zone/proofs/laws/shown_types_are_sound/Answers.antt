@@ -21,12 +21,15 @@ IsSoundRule rule = (u : ℤ) (t : LocalTimeType) → IsRuleType rule u t → IsS
 
 pub returns-in-Some : goal.returns-in-Some
 returns-in-Some c =
-    let sound = of_shown_type IsSound (zone_of c.args.zone.now) (subst AreSound c.local_time_types.ensures c.listed_types_are_sound.ensures)
-    (λ other is. subst IsSoundRule (same_Some c.in-Some.rule other (sym c.in-Some.is ∙ c.extra_rule.ensures ∙ is)) c.rule_types_are_sound.ensures) in
+    let sound = of_shown_type IsSound (zone_of c.args.zone.now)
+    (subst AreSound c.local_time_types.ensures c.listed_types_are_sound.ensures)
+    (λ other is. subst IsSoundRule (same_Some c.in-Some.rule other (sym c.in-Some.is ∙ c.extra_rule.ensures ∙ is))
+    c.rule_types_are_sound.ensures) in
     record { sound = λ u t clock. (sound u t clock).0; fits = λ u t clock. (sound u t clock).1 }
 
 pub returns-in_default : goal.returns-in_default
 returns-in_default c =
     let types = subst AreSound c.local_time_types.ensures c.listed_types_are_sound.ensures in
-    let sound = of_shown_type IsSound (zone_of c.args.zone.now) types (λ rule is. absurd (c.in_default.not-Some rule (c.extra_rule.ensures ∙ is))) in
+    let sound = of_shown_type IsSound (zone_of c.args.zone.now) types
+    (λ rule is. absurd (c.in_default.not-Some rule (c.extra_rule.ensures ∙ is))) in
     record { sound = λ u t clock. (sound u t clock).0; fits = λ u t clock. (sound u t clock).1 }

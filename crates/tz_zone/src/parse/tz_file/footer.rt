@@ -10,7 +10,8 @@ use tz_base::error::TzError;
 use tz_base::error::parse::TzFileError;
 use tz_rule::timezone::TransitionRule;
 
-/// Whether the first and the last byte are line feeds. A single line feed is both, and is a footer without a text.
+/// Whether the first and the last byte are line feeds. A single line feed is both, and is a footer
+/// without a text.
 fn is_between_line_feeds(footer: &[u8]) -> bool
     ensures { MatchBool result (IsBetweenLineFeeds footer.now) (¬ IsBetweenLineFeeds footer.now) }
 {

@@ -1,12 +1,7 @@
 //! TZ strings. (POSIX.1-2017, Base Definitions, 8.3)
 
-mod day;
-mod expect_byte;
-mod name;
-mod number;
-mod offset;
+mod day_time;
+mod parts;
 mod rule_text;
-mod start_and_end;
-mod time;
 
 pub use rule_text::parse_posix_tz;

@@ -1,5 +1,5 @@
-//! The text of a rule: a name and an offset, or two of each, and the start and the end of daylight saving time (the switches). (POSIX.1-2017, Base
-//! Definitions, 8.3)
+//! The text of a rule: a name and an offset, or two of each, and the start and the end of daylight
+//! saving time (the switches). (POSIX.1-2017, Base Definitions, 8.3)
 
 ghost use Rattle.std.specs.Prelude.{◌≡◌, ◌∷◌, ℕ, List, Bool, false, Some, IfSome, IfOk, IfErr, MatchResult, pos};
 ghost use Rattle.tz_base.specs.declared.error.tz_error.TzError.TheVariants.{TzString};
@@ -10,21 +10,18 @@ ghost use Rattle.tz_zone.specs.Bytes.{comma};
 ghost use Rattle.tz_zone.specs.TzText.{IsName, IsDaylightOffset, IsTimeUpTo, offset_hours, IsTzText};
 ghost use Rattle.tz_zone.specs.TzTextFault.{IsDaylightFault, IsTzTextFault};
 
-use super::expect_byte::expect_byte;
-use super::name::read_name;
-use super::offset::{read_daylight_offset, read_offset};
-use super::start_and_end::read_switches;
-use super::time::WrittenTime;
+use super::day_time::{WrittenTime, read_switches};
+use super::parts::{expect_byte, read_daylight_offset, read_name, read_offset};
 use tz_base::error::TzError;
 use tz_base::error::parse::TzStringError;
 use tz_base::error::timezone::LocalTimeTypeError;
 use tz_rule::timezone::{AlternateTime, LocalTimeType, TransitionRule};
 
 /// The daylight name, its offset, and the switches after a comma.
-#[inline(always)]
 fn read_daylight(text: &[u8]) -> Result<(&[u8], Option<WrittenTime>, &[u8]), TzStringError>
     ensures { MatchResult result
-        (λ p. ((after_name : List ℕ) × IsName text.now p.0.now after_name × IsDaylightOffset after_name p.1 (comma ∷ p.2.now)) × IfSome p.1 (IsTimeUpTo offset_hours))
+        (λ p. ((after_name : List ℕ) × IsName text.now p.0.now after_name
+        × IsDaylightOffset after_name p.1 (comma ∷ p.2.now)) × IfSome p.1 (IsTimeUpTo offset_hours))
         (λ e. (extended : Bool) → IsDaylightFault extended text.now (TzString e)) }
 {
     let (name, rest) = read_name(text)?;
@@ -77,8 +74,8 @@ fn read_text(text: &[u8], extended: bool) -> Result<TransitionRule, TzError>
 
 /// The rule that a TZ string denotes. (POSIX.1-2017, Base Definitions, 8.3)
 ///
-/// An extended string may have signed day times, of at most 167 hours, 59 minutes and 59 seconds either way. (RFC 8536, section 3.3.1)
-#[inline(always)]
+/// An extended string may have signed day times, of at most 167 hours, 59 minutes and 59 seconds
+/// either way. (RFC 8536, section 3.3.1)
 pub fn parse_posix_tz(text: &[u8], extended: bool) -> Result<TransitionRule, TzError>
     ensures ok { IfOk result (IsTzText extended text.now) }
     ensures err { IfErr result (IsTzTextFault extended text.now) }

@@ -2,13 +2,18 @@
 //! Date times of a local time type.
 
 use super::durations::duration_between;
+use super::slot_writer::Slot;
+use super::zone_data_searches::from_timespec;
+use super::{FoundDateTimeKind, UtcDateTime};
 use crate::proved::tz::text_buffer::TextBuffer;
 use crate::proved::tz_base::constants::NANOSECONDS_PER_SECOND;
 use crate::proved::tz_base::error::TzError;
 use crate::proved::tz_base::error::datetime::DateTimeError;
 use crate::proved::tz_base::fields::{Fields, is_reading, local_reading};
 use crate::proved::tz_base::total_nanoseconds::{timespec, total_nanoseconds};
-use crate::proved::tz_zone::timezone::{LocalTimeType, TimeZoneRef};
+use crate::proved::tz_rule::timezone::LocalTimeType;
+use crate::proved::tz_zone::inner::plain;
+use crate::proved::tz_zone::timezone::TimeZoneRef;
 use core::cmp::Ordering;
 use core::fmt;
 use core::time::Duration;
@@ -47,8 +52,9 @@ impl Ord for DateTime {
 }
 
 impl DateTime {
-    /// The date time with these fields, which the type shows: the month from 1 to 12, the day of the month from 1, the hour from 0 to 23, the minute
-    /// from 0 to 59, the second from 0 to 60 and the nanoseconds below 10^9.
+    /// The date time with these fields, which the type shows: the month from 1 to 12, the day of
+    /// the month from 1, the hour from 0 to 23, the minute from 0 to 59, the second from 0 to 60
+    /// and the nanoseconds below 10^9.
     ///
     /// The date time that clocks nine hours ahead of UTC show on 2024-05-01 at 8:30:
     ///
@@ -63,8 +69,8 @@ impl DateTime {
     ///
     /// # Errors
     ///
-    /// - [`TzError::DateTime`] with the first field that is out of range, in the order of the arguments, or else with `InvalidMonthDay` if the month
-    ///   does not have the day;
+    /// - [`TzError::DateTime`] with the first field that is out of range, in the order of the
+    ///   arguments, or else with `InvalidMonthDay` if the month does not have the day;
     /// - [`TzError::OutOfRange`] if the year in UTC does not fit an `i32`.
     pub const fn new(
         year: i32,
@@ -105,7 +111,8 @@ impl DateTime {
     ///
     /// # Errors
     ///
-    /// - [`TzError::DateTime`] with [`DateTimeError::InvalidNanoseconds`] if there are 10^9 nanoseconds or more;
+    /// - [`TzError::DateTime`] with [`DateTimeError::InvalidNanoseconds`] if there are 10^9
+    ///   nanoseconds or more;
     /// - [`TzError::OutOfRange`] if the year that the type shows does not fit an `i32`.
     pub const fn from_timespec_and_local(
         unix_time: i64,
@@ -154,9 +161,10 @@ impl DateTime {
     ///
     /// # Errors
     ///
-    /// - [`TzError::DateTime`] with [`DateTimeError::InvalidNanoseconds`] if there are 10^9 nanoseconds or more;
-    /// - [`TzError::NoAvailableLocalTimeType`] or [`TzError::OutOfRange`] of [`TimeZoneRef::find_local_time_type`] if the clock has no type at the
-    ///   instant;
+    /// - [`TzError::DateTime`] with [`DateTimeError::InvalidNanoseconds`] if there are 10^9
+    ///   nanoseconds or more;
+    /// - [`TzError::NoAvailableLocalTimeType`] or [`TzError::OutOfRange`] of
+    ///   [`TimeZoneRef::find_local_time_type`] if the clock has no type at the instant;
     /// - [`TzError::OutOfRange`] if the year that the clock shows does not fit an `i32`.
     #[inline(always)]
     pub const fn from_timespec(
@@ -164,17 +172,11 @@ impl DateTime {
         nanoseconds: u32,
         time_zone_ref: TimeZoneRef<'_>,
     ) -> Result<Self, TzError> {
-        if nanoseconds >= NANOSECONDS_PER_SECOND {
-            return Err(TzError::DateTime(DateTimeError::InvalidNanoseconds));
-        }
-        let local_time_type = match time_zone_ref.find_local_time_type(unix_time) {
-            Ok(value) => value,
-            Err(error) => return Err(error),
-        };
-        DateTime::shown_by(unix_time, nanoseconds, *local_time_type)
+        from_timespec(unix_time, nanoseconds, &plain(&time_zone_ref))
     }
 
-    /// The date time that the type shows a number of nanoseconds after 1970-01-01T00:00:00Z, or before it if the number is negative.
+    /// The date time that the type shows a number of nanoseconds after 1970-01-01T00:00:00Z, or
+    /// before it if the number is negative.
     ///
     /// # Errors
     ///
@@ -190,7 +192,8 @@ impl DateTime {
         DateTime::shown_by(unix_time, nanoseconds, local_time_type)
     }
 
-    /// The date time that the zone's clock shows a number of nanoseconds after 1970-01-01T00:00:00Z, or before it if the number is negative.
+    /// The date time that the zone's clock shows a number of nanoseconds after
+    /// 1970-01-01T00:00:00Z, or before it if the number is negative.
     ///
     /// # Errors
     ///
@@ -308,8 +311,8 @@ impl fmt::Debug for DateTime {
     }
 }
 
-/// Prints `year-MM-DDThh:mm:ss.nnnnnnnnn` and `Z` or the offset, as `+hh:mm`, with `:ss` where it has seconds. The format's
-/// width plays no part. (ISO 8601-1, 5.4.2)
+/// Prints `year-MM-DDThh:mm:ss.nnnnnnnnn` and `Z` or the offset, as `+hh:mm`, with `:ss` where it
+/// has seconds. The format's width plays no part. (ISO 8601-1, 5.4.2)
 impl fmt::Display for DateTime {
     fn fmt(&self, f: &mut fmt::Formatter<'_>) -> fmt::Result {
         let mut line = TextBuffer::new();
@@ -322,4 +325,71 @@ impl fmt::Display for DateTime {
 #[inline(always)]
 pub fn fields_of(date_time: &DateTime) -> &Fields {
     date_time.fields()
+}
+
+/// The data of a [`UtcDateTime`], laid out as that is.
+#[repr(C)]
+#[derive(Clone, Copy)]
+pub struct UtcData {
+    /// The fields.
+    pub fields: Fields,
+    /// Their reading.
+    pub unix_time: i64,
+}
+
+/// The data of a [`DateTime`], laid out as that is.
+#[repr(C)]
+#[derive(Clone, Copy)]
+pub struct DateTimeData {
+    /// The fields.
+    pub fields: Fields,
+    /// The type that shows them.
+    pub local_time_type: LocalTimeType,
+    /// Its Unix time.
+    pub unix_time: i64,
+}
+
+/// The data of a [`FoundDateTimeKind`].
+#[repr(C)]
+#[derive(Clone, Copy)]
+pub struct FoundData {
+    /// Whether the clock was set forward over the date time.
+    pub is_skipped: bool,
+    /// The date time, or the one before the jump.
+    pub before: DateTimeData,
+    /// The date time, or the one after the jump.
+    pub after: DateTimeData,
+}
+
+impl UtcData {
+    /// The data of a date time.
+    #[inline(always)]
+    pub const fn of(date_time: &UtcDateTime) -> Self {
+        UtcData {
+            fields: *date_time.fields(),
+            unix_time: date_time.unix_time(),
+        }
+    }
+}
+
+impl DateTimeData {
+    /// The data of a date time.
+    #[inline(always)]
+    pub const fn of(date_time: &DateTime) -> Self {
+        DateTimeData {
+            fields: *date_time.fields(),
+            local_time_type: *date_time.local_time_type(),
+            unix_time: date_time.unix_time(),
+        }
+    }
+}
+
+impl Slot for FoundData {
+    #[inline(always)]
+    fn set(&mut self, found: &FoundDateTimeKind) {
+        let (before, after) = found.sides();
+        self.is_skipped = matches!(found, FoundDateTimeKind::Skipped { .. });
+        self.before = DateTimeData::of(before);
+        self.after = DateTimeData::of(after);
+    }
 }

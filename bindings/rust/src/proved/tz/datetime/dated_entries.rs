@@ -1,5 +1,6 @@
 // Generated from crates/tz/src/datetime/dated_entries.rt by bindings/erase: its contracts are cut. Change that file instead.
-//! The date times of the entries that a search finds: their fields are those that were searched for, and those of a jump are what both types show.
+//! The date times of the entries that a search finds: their fields are those that were searched
+//! for, and those of a jump are what both types show.
 
 use super::entry_takers::{DateTimeList, EntryTaker};
 use super::{DateTime, FoundDateTimeKind};

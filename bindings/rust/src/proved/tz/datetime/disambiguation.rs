@@ -1,14 +1,13 @@
 // Generated from crates/tz/src/datetime/disambiguation.rt by bindings/erase: its contracts are cut. Change that file instead.
 //! Which date time a local time means, by a choice for gaps and folds.
 
-use super::entry_takers::DateTimeList;
-use super::zone_data_searches::{from_timespec, search_data};
-use super::{DateTime, FoundDateTimeKind, UtcDateTime};
+use super::ends::{Entry, meant_in};
+use super::zone_data_searches::from_timespec;
+use super::{DateTime, UtcDateTime};
 use crate::proved::tz_base::error::TzError;
 use crate::proved::tz_base::fields::Fields;
-use crate::proved::tz_zone::inner::ZoneData;
-use crate::proved::tz_zone::timezone::TimeZoneRef;
-use crate::shim::alloc::AllocError;
+use crate::proved::tz_zone::inner::{ZoneData, plain};
+use crate::proved::tz_zone::timezone::{LocalTimeType, TimeZoneRef};
 
 /// Which date time a local time means if clocks are set forward over it or show it more than once.
 ///
@@ -19,95 +18,47 @@ use crate::shim::alloc::AllocError;
 /// | `Later` | the last instant | as much later: 2:30 becomes 3:30 |
 /// | `Reject` | none | none |
 ///
-/// If clocks show a local time exactly once and are not set forward over it, all choices mean that. If they do both, as when they are set back soon
-/// after, `Compatible` means the first instant at which they show it, `Earlier` and `Later` the first and the last entry of
+/// If clocks show a local time exactly once and are not set forward over it, all choices mean that.
+/// If they do both, as when they are set back soon after, `Compatible` means the first instant at
+/// which they show it, `Earlier` and `Later` the first and the last entry of
 /// [`DateTime::find`](super::DateTime::find), and `Reject` none.
 #[derive(Clone, Copy, Debug, PartialEq, Eq)]
 pub enum Disambiguation {
-    /// The first instant at which clocks show it, or, in a gap, as much later as clocks are set forward: what calendars do. (RFC 5545, 3.3.5)
+    /// The first instant at which clocks show it, or, in a gap, as much later as clocks are set
+    /// forward: what calendars do. (RFC 5545, 3.3.5)
     Compatible,
-    /// The first entry: an instant at which clocks show it, or, in a gap, as much earlier as clocks are set forward.
+    /// The first entry: an instant at which clocks show it, or, in a gap, as much earlier as clocks
+    /// are set forward.
     Earlier,
-    /// The last entry: an instant at which clocks show it, or, in a gap, as much later as clocks are set forward.
+    /// The last entry: an instant at which clocks show it, or, in a gap, as much later as clocks
+    /// are set forward.
     Later,
-    /// The only instant at which clocks show it, or none if there are several or if clocks are also set forward over it.
+    /// The only instant at which clocks show it, or none if there are several or if clocks are also
+    /// set forward over it.
     Reject,
 }
 
-/// The entries of a search, as far as the one that is meant depends on them.
-#[derive(Clone, Copy)]
-pub(crate) enum Summary {
-    /// There is none.
-    Nothing,
-    /// There is one.
-    One(FoundDateTimeKind),
-    /// There are several: the first, the last, and the first that is shown.
-    Several {
-        first: FoundDateTimeKind,
-        last: FoundDateTimeKind,
-        shown: Option<FoundDateTimeKind>,
-    },
-}
-
-impl Summary {
-    /// The entry that is meant, if there is one.
-    #[inline(always)]
-    pub(super) fn entry(&self, disambiguation: Disambiguation) -> Option<FoundDateTimeKind> {
-        match (self, disambiguation) {
-            (Summary::Nothing, _) | (Summary::Several { .. }, Disambiguation::Reject) => None,
-            (Summary::One(found), Disambiguation::Reject) => shown_entry(found),
-            (Summary::One(found), _) => Some(*found),
-            (Summary::Several { first, .. }, Disambiguation::Earlier) => Some(*first),
-            (Summary::Several { last, shown, .. }, Disambiguation::Compatible) => {
-                shown.or(Some(*last))
-            }
-            (Summary::Several { last, .. }, Disambiguation::Later) => Some(*last),
-        }
-    }
-}
-
-impl DateTimeList for Summary {
-    #[inline(always)]
-    fn push(&mut self, found: FoundDateTimeKind) -> Result<(), AllocError> {
-        *self = match *self {
-            Summary::Nothing => Summary::One(found),
-            Summary::One(first) => Summary::Several {
-                first,
-                last: found,
-                shown: shown_entry(&first).or(shown_entry(&found)),
-            },
-            Summary::Several { first, shown, .. } => Summary::Several {
-                first,
-                last: found,
-                shown: shown.or(shown_entry(&found)),
-            },
-        };
-        Ok(())
-    }
-}
-
-/// The entry, if the clock shows its date time.
-fn shown_entry(found: &FoundDateTimeKind) -> Option<FoundDateTimeKind> {
-    match found {
-        FoundDateTimeKind::Normal(_) => Some(*found),
-        FoundDateTimeKind::Skipped { .. } => None,
-    }
-}
-
-/// What an entry means: its date time, or else, in a gap, the instant at which the clock is to be looked up.
-pub(super) fn resolved(
-    entry: &FoundDateTimeKind,
+/// The instant at which the clock is looked up for a jump over the fields.
+#[inline(always)]
+fn lookup_instant(
     fields: &Fields,
     disambiguation: Disambiguation,
-) -> Result<DateTime, i64> {
-    if let FoundDateTimeKind::Normal(date_time) = entry {
-        return Ok(*date_time);
-    }
-    let side = match disambiguation {
-        Disambiguation::Earlier => entry.sides().1,
-        _ => entry.sides().0,
+    before: &LocalTimeType,
+    after: &LocalTimeType,
+) -> i64 {
+    let local_time_type = match disambiguation {
+        Disambiguation::Earlier => after,
+        _ => before,
     };
-    Err(fields.reading() - i64::from(side.local_time_type().ut_offset()))
+    fields.reading() - i64::from(local_time_type.ut_offset())
+}
+
+/// What the zone's clock shows at a Unix time. It is not inlined, so that the search, which seldom
+/// needs it, is.
+#[cold]
+#[inline(never)]
+fn shown_apart(unix_time: i64, nanoseconds: u32, zone: &ZoneData<'_>) -> Result<DateTime, TzError> {
+    from_timespec(unix_time, nanoseconds, zone)
 }
 
 /// The one date time that fields mean, as [`DateTime::find_one`] answers it.
@@ -118,23 +69,26 @@ pub fn find_one(
     zone: &ZoneData<'_>,
 ) -> Result<Option<DateTime>, TzError> {
     fields.check()?;
-    let mut summary = Summary::Nothing;
-    search_data(&mut summary, fields, zone)?;
-    let Some(entry) = summary.entry(disambiguation) else {
-        return Ok(None);
-    };
-    match resolved(&entry, fields, disambiguation) {
-        Ok(date_time) => Ok(Some(date_time)),
-        Err(unix_time) => Ok(Some(from_timespec(unix_time, fields.nanoseconds, zone)?)),
+    match meant_in(fields.reading(), disambiguation, zone)? {
+        None => Ok(None),
+        Some(Entry::Shown(unix_time, local_time_type)) => {
+            let date_time = DateTime::of_fields(fields, *local_time_type, unix_time);
+            Ok(Some(date_time))
+        }
+        Some(Entry::Jump(_, before, after)) => {
+            let unix_time = lookup_instant(fields, disambiguation, before, after);
+            Ok(Some(shown_apart(unix_time, fields.nanoseconds, zone)?))
+        }
     }
 }
 
 impl DateTime {
-    /// The one date time that a local time means, or `None` if the zone's clock neither shows it nor is set forward over it, or if `Reject` rejects
-    /// it.
+    /// The one date time that a local time means, or `None` if the zone's clock neither shows it
+    /// nor is set forward over it, or if `Reject` rejects it.
     ///
-    /// The fields are in the ranges of [`DateTime::find`]. If the choice means a jump over the local time, the result is what the clock shows at
-    /// another instant, earlier or later. This call does not allocate.
+    /// The fields are in the ranges of [`DateTime::find`]. If the choice means a jump over the
+    /// local time, the result is what the clock shows at another instant, earlier or later. This
+    /// call does not allocate.
     ///
     /// Noon of a date in a zone:
     ///
@@ -168,11 +122,11 @@ impl DateTime {
         time_zone_ref: TimeZoneRef<'_>,
     ) -> Result<Option<Self>, TzError> {
         let fields = Fields::new(year, month, month_day, hour, minute, second, nanoseconds);
-        find_one(&fields, disambiguation, &ZoneData::of(time_zone_ref))
+        find_one(&fields, disambiguation, &plain(&time_zone_ref))
     }
 
-    /// The one date time that a local time means. The local time is passed as a [`UtcDateTime`] with its fields, which serves here as a
-    /// date and a time of day without a zone.
+    /// The one date time that a local time means. The local time is passed as a [`UtcDateTime`]
+    /// with its fields, which serves here as a date and a time of day without a zone.
     ///
     /// The result is that of [`DateTime::find_one`] for these fields.
     ///
@@ -191,7 +145,7 @@ impl DateTime {
     ///     let (year, month, month_day) = (today.year(), today.month(), today.month_day());
     ///     let local = UtcDateTime::new(year, month, month_day, hour, minute, 0, 0)?;
     ///     let day = Duration::from_secs(86_400);
-    ///     // Yesterday's run is still to come where clocks have just been set forward over midnight.
+    ///     // Yesterday's run is still to come where clocks have just been set over midnight.
     ///     for local in [local.checked_sub(day), Some(local), local.checked_add(day)] {
     ///         let local = local.ok_or(TzError::OutOfRange)?;
     ///         match DateTime::from_local(local, Disambiguation::Compatible, zone)? {
@@ -211,6 +165,6 @@ impl DateTime {
         disambiguation: Disambiguation,
         time_zone_ref: TimeZoneRef<'_>,
     ) -> Result<Option<Self>, TzError> {
-        find_one(local.fields(), disambiguation, &ZoneData::of(time_zone_ref))
+        find_one(local.fields(), disambiguation, &plain(&time_zone_ref))
     }
 }

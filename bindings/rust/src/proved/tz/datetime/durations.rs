@@ -6,7 +6,8 @@ use crate::proved::tz_base::fields::is_reading;
 use crate::proved::tz_base::total_nanoseconds::timespec;
 use core::time::Duration;
 
-/// The seconds of the total, rounded down, and the nanoseconds that remain, if the seconds are those of a UTC date time.
+/// The seconds of the total, rounded down, and the nanoseconds that remain, if the seconds are
+/// those of a UTC date time.
 pub(super) const fn utc_timespec(total: i128) -> Option<(i64, u32)> {
     let (seconds, nanoseconds) = match timespec(total) {
         Some(value) => value,
@@ -21,7 +22,8 @@ pub(super) const fn utc_timespec(total: i128) -> Option<(i64, u32)> {
 /// The seconds from the first reading of UTC date times to the last.
 const ALL_SECONDS: u64 = 135_536_076_801_503_999;
 
-/// The seconds with the whole ones of the nanoseconds, and the nanoseconds that remain, if the seconds are those of a UTC date time.
+/// The seconds with the whole ones of the nanoseconds, and the nanoseconds that remain, if the
+/// seconds are those of a UTC date time.
 const fn carried(seconds: i64, nanoseconds: u32) -> Option<(i64, u32)> {
     let whole = seconds + (nanoseconds / NANOSECONDS_PER_SECOND) as i64;
     if !is_reading(whole) {
@@ -30,7 +32,8 @@ const fn carried(seconds: i64, nanoseconds: u32) -> Option<(i64, u32)> {
     Some((whole, nanoseconds % NANOSECONDS_PER_SECOND))
 }
 
-/// The seconds and nanoseconds a duration after others, if the seconds are those of a UTC date time.
+/// The seconds and nanoseconds a duration after others, if the seconds are those of a UTC date
+/// time.
 pub(super) const fn time_after(
     seconds: i64,
     nanoseconds: u32,
@@ -44,7 +47,8 @@ pub(super) const fn time_after(
     carried(seconds + added as i64, nanoseconds)
 }
 
-/// The seconds and nanoseconds a duration before others, if the seconds are those of a UTC date time.
+/// The seconds and nanoseconds a duration before others, if the seconds are those of a UTC date
+/// time.
 pub(super) const fn time_before(
     seconds: i64,
     nanoseconds: u32,
@@ -58,7 +62,8 @@ pub(super) const fn time_before(
     carried(seconds - taken as i64 - 1, borrowed)
 }
 
-/// The duration between two totals: `Ok` if the later one is not below the earlier one, and otherwise `Err` with the way back.
+/// The duration between two totals: `Ok` if the later one is not below the earlier one, and
+/// otherwise `Err` with the way back.
 pub(super) const fn duration_between(earlier: i128, later: i128) -> Result<Duration, Duration> {
     let difference = later - earlier;
     let nanoseconds = difference.unsigned_abs();

@@ -1,5 +1,6 @@
 // Generated from crates/tz/src/datetime/entry_takers.rt by bindings/erase: its contracts are cut. Change that file instead.
-//! What takes the entries of a search, which are instants that show a reading and jumps over it, and the lists to which they go as date times.
+//! What takes the entries of a search, which are instants that show a reading and jumps over it,
+//! and the lists to which they go as date times.
 
 use super::FoundDateTimeKind;
 use crate::proved::tz_base::error::TzError;
@@ -7,7 +8,7 @@ use crate::proved::tz_zone::timezone::LocalTimeType;
 use crate::shim::alloc::AllocError;
 
 /// What takes the entries of a search, in order of time.
-pub trait EntryTaker<'a> {
+pub(crate) trait EntryTaker<'a> {
     /// Takes an instant at which a clock shows the reading in a type.
     fn shown(&mut self, unix_time: i64, local_time_type: &'a LocalTimeType) -> Result<(), TzError>;
 

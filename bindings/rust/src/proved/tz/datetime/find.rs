@@ -7,7 +7,7 @@ use super::slot_writer::SlotWriter;
 use super::{DateTime, FoundDateTimeKind, FoundDateTimeList, FoundDateTimeListRefMut, UtcDateTime};
 use crate::proved::tz_base::error::TzError;
 use crate::proved::tz_base::fields::Fields;
-use crate::proved::tz_zone::inner::{Uncounted, offsets, other_parts_of};
+use crate::proved::tz_zone::inner::{Uncounted, ZoneData, plain};
 use crate::proved::tz_zone::timezone::TimeZoneRef;
 use crate::shim::alloc::Allocator;
 
@@ -21,34 +21,36 @@ pub(super) struct Refused<'a> {
 pub fn find_fields<A: Allocator + Copy>(
     alloc: A,
     fields: &Fields,
-    time_zone_ref: TimeZoneRef<'_>,
+    zone: &ZoneData<'_>,
 ) -> Result<FoundDateTimeList<A>, TzError> {
     let mut list = FoundDateTimeList::new_in(alloc);
-    let mut view = Uncounted::new(time_zone_ref.transitions());
-    find_in(&mut list, fields, &mut view, time_zone_ref)?;
+    let mut view = Uncounted::new(zone.transitions());
+    find_in(&mut list, fields, &mut view, zone)?;
     Ok(list)
 }
 
-/// Adds what [`DateTime::find`] finds of the fields to a list, through a view of the zone's transitions.
+/// Adds what [`DateTime::find`] finds of the fields to a list, through a view of the zone's
+/// transitions.
 #[inline(always)]
 pub(super) fn find_in<L: DateTimeList>(
     list: &mut L,
     fields: &Fields,
     view: &mut Uncounted<'_>,
-    time_zone_ref: TimeZoneRef<'_>,
+    zone: &ZoneData<'_>,
 ) -> Result<(), TzError> {
+    // For the proof, which bounds the entries by these offsets.
+    let (_least, _greatest) = zone.offsets();
     fields.check()?;
-    let (least, greatest) = offsets(&time_zone_ref);
-    let parts = other_parts_of(&time_zone_ref);
-    search(list, fields, view, parts, least, greatest)
+    search(list, fields, view, zone)
 }
 
 impl DateTime {
-    /// Writes what [`DateTime::find`] returns to the slots of a buffer, as far as they go, and counts all entries. The other slots stay as they are.
-    /// This call does not allocate.
+    /// Writes what [`DateTime::find`] returns to the slots of a buffer, as far as they go, and
+    /// counts all entries. The other slots stay as they are. This call does not allocate.
     ///
-    /// The month is from 1 to 12, the day of the month from 1, the hour from 0 to 23, the minute from 0 to 59, the second from 0 to 60 and the
-    /// nanoseconds below 10^9. A date time keeps the fields that were passed, second 60 included.
+    /// The month is from 1 to 12, the day of the month from 1, the hour from 0 to 23, the minute
+    /// from 0 to 59, the second from 0 to 60 and the nanoseconds below 10^9. A date time keeps the
+    /// fields that were passed, second 60 included.
     ///
     /// # Errors
     ///
@@ -81,9 +83,11 @@ impl DateTime {
         }
     }
 
-    /// What [`DateTime::find_n`] returns for the fields of the local time. The `UtcDateTime` is read as a local time, without an offset.
+    /// What [`DateTime::find_n`] returns for the fields of the local time. The `UtcDateTime` is
+    /// read as a local time, without an offset.
     ///
-    /// How many instants and jumps a local time has, without allocating: almost always 1, and 2 if clocks show it twice.
+    /// How many instants and jumps a local time has, without allocating: almost always 1, and 2 if
+    /// clocks show it twice.
     ///
     /// ```
     /// # use std::time::Duration;
@@ -103,7 +107,7 @@ impl DateTime {
         time_zone_ref: TimeZoneRef<'_>,
     ) -> Result<FoundDateTimeListRefMut<'a>, TzError> {
         let mut view = Uncounted::new(time_zone_ref.transitions());
-        match DateTime::listed_in(buf, local.fields(), &mut view, time_zone_ref) {
+        match DateTime::listed_in(buf, local.fields(), &mut view, &plain(&time_zone_ref)) {
             Ok(list) => Ok(list),
             Err(refused) => Err(refused.fault),
         }
@@ -123,19 +127,20 @@ impl DateTime {
     ) -> Result<FoundDateTimeListRefMut<'a>, Refused<'a>> {
         let fields = Fields::new(year, month, month_day, hour, minute, second, nanoseconds);
         let mut view = Uncounted::new(time_zone_ref.transitions());
-        DateTime::listed_in(buf, &fields, &mut view, time_zone_ref)
+        DateTime::listed_in(buf, &fields, &mut view, &plain(&time_zone_ref))
     }
 
-    /// What [`DateTime::find_n`] returns for the fields, through a view of the zone's transitions, or the buffer and the error.
+    /// What [`DateTime::find_n`] returns for the fields, through a view of the zone's transitions,
+    /// or the buffer and the error.
     #[inline(always)]
-    pub(super) fn listed_in<'a>(
+    fn listed_in<'a>(
         buf: &'a mut [Option<FoundDateTimeKind>],
         fields: &Fields,
         view: &mut Uncounted<'_>,
-        time_zone_ref: TimeZoneRef<'_>,
+        zone: &ZoneData<'_>,
     ) -> Result<FoundDateTimeListRefMut<'a>, Refused<'a>> {
         let mut writer = SlotWriter::new(buf, 0);
-        match find_in(&mut writer, fields, view, time_zone_ref) {
+        match find_in(&mut writer, fields, view, zone) {
             Ok(()) => {
                 let count = writer.count;
                 Ok(FoundDateTimeListRefMut::counted(buf, count))

@@ -1,5 +1,6 @@
 // Generated from crates/tz/src/datetime/found.rt by bindings/erase: its contracts are cut. Change that file instead.
-//! What a search of date times finds: an entry, and lists of entries in memory of their own or in a buffer of the caller.
+//! What a search of date times finds: an entry, and lists of entries in memory of their own or in a
+//! buffer of the caller.
 
 use super::DateTime;
 use super::entry_takers::DateTimeList;
@@ -89,7 +90,8 @@ impl<A: Allocator + Copy> FoundDateTimeList<A> {
 }
 
 impl<A: Allocator + Copy> DateTimeList for FoundDateTimeList<A> {
-    /// The first one gets room for two, since a reading is found once, or twice if clocks are set back over it.
+    /// The first one gets room for two, since a reading is found once, or twice if clocks are set
+    /// back over it.
     #[inline(always)]
     fn push(&mut self, found: FoundDateTimeKind) -> Result<(), AllocError> {
         if self.found.is_empty() {
@@ -111,15 +113,19 @@ impl<A: Allocator + Copy> fmt::Debug for FoundDateTimeList<A> {
 
 /// The date times that a search found, by rising Unix time, as far as a buffer goes.
 ///
-/// All are counted, and the first of them are in the buffer's first slots. Lists are equal if all slots of the buffers are, and the
-/// counts are.
+/// All are counted, and the first of them are in the buffer's first slots. Lists are equal if all
+/// slots of the buffers are, and the counts are.
 ///
-/// The Unix time of a local time that is in no gap and no fold. One slot is enough, as all entries are counted:
+/// The Unix time of a local time that is in no gap and no fold. One slot is enough, as all entries
+/// are counted:
 ///
 /// ```
 /// # use std::time::Duration;
 /// # use tz::{datetime::*, error::*, timezone::*, *};
-/// pub fn plain_instant(zone: TimeZoneRef<'_>, local: UtcDateTime) -> Result<Option<i64>, TzError> {
+/// pub fn plain_instant(
+///     zone: TimeZoneRef<'_>,
+///     local: UtcDateTime,
+/// ) -> Result<Option<i64>, TzError> {
 ///     let mut slots = [None; 1];
 ///     let found = DateTime::find_n_local(&mut slots, local, zone)?;
 ///     Ok(found.unique().map(|date_time| date_time.unix_time()))
@@ -161,7 +167,8 @@ impl<'a> FoundDateTimeListRefMut<'a> {
         self.count <= self.buf.len()
     }
 
-    /// The earliest date time that was written; of a jump the side before it. `None` if nothing was written.
+    /// The earliest date time that was written; of a jump the side before it. `None` if nothing was
+    /// written.
     pub const fn earliest(&self) -> Option<DateTime> {
         Some(
             *(match (match self.data().first() {
@@ -178,7 +185,8 @@ impl<'a> FoundDateTimeListRefMut<'a> {
         )
     }
 
-    /// The latest date time that was written; of a jump the side after it. `None` if nothing was written.
+    /// The latest date time that was written; of a jump the side after it. `None` if nothing was
+    /// written.
     pub const fn latest(&self) -> Option<DateTime> {
         Some(
             *(match (match self.data().last() {
@@ -195,7 +203,8 @@ impl<'a> FoundDateTimeListRefMut<'a> {
         )
     }
 
-    /// The date time, if exactly one was found and no jump, and there was a slot for it, and otherwise `None`.
+    /// The date time, if exactly one was found and no jump, and there was a slot for it, and
+    /// otherwise `None`.
     pub const fn unique(&self) -> Option<DateTime> {
         match *self.data() {
             [Some(FoundDateTimeKind::Normal(date_time))] if self.is_exhaustive() => Some(date_time),
@@ -210,7 +219,8 @@ impl PartialEq for FoundDateTimeListRefMut<'_> {
     }
 }
 
-/// Prints the name of the type, all slots, how many of them were written, and how many date times were found.
+/// Prints the name of the type, all slots, how many of them were written, and how many date times
+/// were found.
 impl fmt::Debug for FoundDateTimeListRefMut<'_> {
     fn fmt(&self, f: &mut fmt::Formatter<'_>) -> fmt::Result {
         f.debug_struct("FoundDateTimeListRefMut")

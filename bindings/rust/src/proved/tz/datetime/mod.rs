@@ -2,10 +2,10 @@
 //! Date times.
 
 pub(crate) mod date_time;
-pub(crate) mod date_time_data;
 mod dated_entries;
 pub(crate) mod disambiguation;
 mod durations;
+pub(crate) mod ends;
 pub(crate) mod entry_takers;
 pub(crate) mod find;
 mod found;

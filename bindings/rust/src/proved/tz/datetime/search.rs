@@ -1,25 +1,26 @@
 // Generated from crates/tz/src/datetime/search.rt by bindings/erase: its contracts are cut. Change that file instead.
-//! The search for a reading in the clock of a zone: in its window, the instants among which it finds all that the reading means.
+//! The search for a reading in the clock of a zone: in its window, the instants among which it
+//! finds all that the reading means.
 
 use super::dated_entries::Dated;
 use super::entry_takers::{DateTimeList, EntryTaker};
 use crate::proved::tz_base::error::TzError;
 use crate::proved::tz_base::fields::Fields;
 use crate::proved::tz_zone::inner::{
-    OtherParts, Uncounted, WindowTypes, first_stage, offsets, other_parts_of, span_from,
-    window_types,
+    Uncounted, WindowTypes, ZoneData, first_stage, span_from, window_types,
 };
-use crate::proved::tz_zone::timezone::{LocalTimeType, TimeZoneRef};
+use crate::proved::tz_zone::timezone::LocalTimeType;
 
 /// The instant at which a type shows a reading.
 #[inline(always)]
-fn shown_at(reading: i64, local_time_type: &LocalTimeType) -> i64 {
+pub(super) fn shown_at(reading: i64, local_time_type: &LocalTimeType) -> i64 {
     reading - i64::from(local_time_type.ut_offset())
 }
 
-/// Whether clocks that change at an instant from one type to another are set forward over a reading.
+/// Whether clocks that change at an instant from one type to another are set forward over a
+/// reading.
 #[inline(always)]
-fn passes_over(
+pub(super) fn passes_over(
     reading: i64,
     unix_time: i64,
     before: &LocalTimeType,
@@ -28,8 +29,8 @@ fn passes_over(
     shown_at(reading, after) < unix_time && unix_time <= shown_at(reading, before)
 }
 
-/// Gives what a reading has from `since` to `last`, throughout which the clock has one type or none: an instant that shows it, or else the jump at
-/// `since` from the type before.
+/// Gives what a reading has from `since` to `last`, throughout which the clock has one type or
+/// none: an instant that shows it, or else the jump at `since` from the type before.
 fn give<'a, E: EntryTaker<'a>>(
     entries: &mut E,
     reading: i64,
@@ -53,8 +54,9 @@ fn give<'a, E: EntryTaker<'a>>(
     }
 }
 
-/// Gives what a reading has in its window if the clock has one type before an instant, and another from there on. The offsets of both are between the
-/// least and the greatest one, so what shows the reading is in the window.
+/// Gives what a reading has in its window if the clock has one type before an instant, and another
+/// from there on. The offsets of both are between the least and the greatest one, so what shows the
+/// reading is in the window.
 #[inline(always)]
 fn give_around<'a, E: EntryTaker<'a>>(
     entries: &mut E,
@@ -68,7 +70,8 @@ fn give_around<'a, E: EntryTaker<'a>>(
         return entries.skipped(since, before, after);
     }
     if since <= first {
-        // The type before does not show the reading, and the jump does not pass over it. So `since <= second`, and the type after shows it.
+        // The type before does not show the reading, and the jump does not pass over it. So `since
+        // <= second`, and the type after shows it.
         return entries.shown(second, after);
     }
     entries.shown(first, before)?;
@@ -79,29 +82,32 @@ fn give_around<'a, E: EntryTaker<'a>>(
     }
 }
 
-/// Gives all that a reading has in its window, in order, by the spans of the clock from the place on at which the window begins.
+/// Gives all that a reading has in its window, in order, by the spans of the clock from the
+/// position on at which the window begins.
 #[cold]
 #[inline(never)]
 fn walk<'a, E: EntryTaker<'a>>(
     entries: &mut E,
     reading: i64,
     view: &mut Uncounted<'_>,
-    parts: OtherParts<'a>,
-    place: Option<usize>,
+    zone: ZoneData<'a>,
+    position: Option<usize>,
     low: i64,
     high: i64,
 ) -> Result<(), TzError> {
-    let Some((first, stage)) = first_stage(view, parts, place, low) else {
+    let Some((first, stage)) = first_stage(view, &zone, position, low) else {
         return Ok(());
     };
-    // A jump at `first` is no entry. It would pass over the reading only if the type after it showed the reading before `first`, but before `low` no
-    // type does; and if `first` is later than `low`, there is no type before it.
+    // A jump at `first` is no entry. It would pass over the reading only if the type after it
+    // showed the reading before `first`, but before `low` no type does; and if `first` is later
+    // than `low`, there is no type before it.
     let mut before = None;
     let (mut since, mut stage) = (first, stage);
     while since <= high {
-        let span = span_from(view, parts, stage, since, high);
+        let span = span_from(view, &zone, stage, since, high);
         stage = span.next;
-        // If two transitions take effect at the same instant, as around an inserted second, the span between them is empty.
+        // If two transitions take effect at the same instant, as around an inserted second, the
+        // span between them is empty.
         if since <= span.last {
             let after = span.local_time_type;
             give(entries, reading, before, since, after, span.last)?;
@@ -114,17 +120,19 @@ fn walk<'a, E: EntryTaker<'a>>(
 
 /// Gives all that a reading has in its window, in order, by the types that the clock has there.
 #[inline(always)]
-fn search_window<'a, E: EntryTaker<'a>>(
+pub(super) fn give_in_window<'a, E: EntryTaker<'a>>(
     entries: &mut E,
     reading: i64,
     view: &mut Uncounted<'_>,
-    parts: OtherParts<'a>,
+    zone: ZoneData<'a>,
+    types: WindowTypes<'a>,
     low: i64,
     high: i64,
 ) -> Result<(), TzError> {
-    match window_types(view, parts, low, high) {
+    match types {
         WindowTypes::One(local_time_type) => {
-            // Its offset is between the least and the greatest one, so it shows the reading within the window.
+            // Its offset is between the least and the greatest one, so it shows the reading within
+            // the window.
             entries.shown(shown_at(reading, local_time_type), local_time_type)
         }
         WindowTypes::Two {
@@ -132,54 +140,55 @@ fn search_window<'a, E: EntryTaker<'a>>(
             before,
             after,
         } => give_around(entries, reading, unix_time, before, after),
-        WindowTypes::More(place) => walk(entries, reading, view, parts, place, low, high),
+        WindowTypes::More(position) => walk(entries, reading, view, zone, position, low, high),
     }
 }
 
-/// The first and the last instant at which a clock with offsets from the least to the greatest one can show a reading, or be set forward over it.
-/// Both are so near that no leap second takes a leap time out of 64 bits before them.
+/// Gives all that a reading has in its window, in order.
+#[inline(always)]
+fn search_window<'a, E: EntryTaker<'a>>(
+    entries: &mut E,
+    reading: i64,
+    view: &mut Uncounted<'_>,
+    zone: ZoneData<'a>,
+    low: i64,
+    high: i64,
+) -> Result<(), TzError> {
+    let types = window_types(view, zone, low, high);
+    give_in_window(entries, reading, view, zone, types, low, high)
+}
+
+/// The first and the last instant at which a clock with offsets from the least to the greatest one
+/// can show a reading, or be set forward over it. Both are so near that no leap second takes a leap
+/// time out of 64 bits before them.
 fn window(reading: i64, least: i32, greatest: i32) -> (i64, i64) {
     (reading - i64::from(greatest), reading - i64::from(least))
 }
 
-/// The first and the last instant of a reading's window, by the least and the greatest offset of a zone.
+/// The first and the last instant of a reading's window, by the least and the greatest offset of a
+/// zone.
 #[inline(always)]
-pub fn window_of(zone: TimeZoneRef<'_>, reading: i64) -> (i64, i64) {
-    let (least, greatest) = offsets(&zone);
+pub fn window_of(zone: &ZoneData<'_>, reading: i64) -> (i64, i64) {
+    let (least, greatest) = zone.offsets();
     window(reading, least, greatest)
 }
 
-/// Gives all that a reading has in the clock of a zone, in order, by its window.
+/// The types that the clock of a zone has in a window.
 #[inline(always)]
-pub fn search_zone<'a, E: EntryTaker<'a>>(
-    entries: &mut E,
-    reading: i64,
-    zone: TimeZoneRef<'a>,
-    low: i64,
-    high: i64,
-) -> Result<(), TzError> {
+pub fn types_of_window<'a>(zone: &ZoneData<'a>, low: i64, high: i64) -> WindowTypes<'a> {
     let mut view = Uncounted::new(zone.transitions());
-    search_window(
-        entries,
-        reading,
-        &mut view,
-        other_parts_of(&zone),
-        low,
-        high,
-    )
+    window_types(&mut view, *zone, low, high)
 }
 
-/// Adds the entries for valid fields to the list, in order, by the least and the greatest offset of the zone.
+/// Adds the entries for valid fields to the list, in order.
 pub(super) fn search<L: DateTimeList>(
     list: &mut L,
     fields: &Fields,
     view: &mut Uncounted<'_>,
-    parts: OtherParts<'_>,
-    least: i32,
-    greatest: i32,
+    zone: &ZoneData<'_>,
 ) -> Result<(), TzError> {
     let reading = fields.reading();
-    let (low, high) = window(reading, least, greatest);
+    let (low, high) = window_of(zone, reading);
     let mut dated = Dated { fields, list };
-    search_window(&mut dated, reading, view, parts, low, high)
+    search_window(&mut dated, reading, view, *zone, low, high)
 }

@@ -39,9 +39,9 @@ impl<'a, S: Slot> SlotWriter<'a, S> {
     /// Counts one more, and writes it to its slot, if there is one.
     fn write(&mut self, found: &FoundDateTimeKind) {
         if self.skip <= self.count {
-            let place = self.count - self.skip;
-            if place < self.slots.len() {
-                self.slots[place].set(found);
+            let index = self.count - self.skip;
+            if index < self.slots.len() {
+                self.slots[index].set(found);
             }
         }
         // A list has at most 2^33 entries, so the count never comes to its end.

@@ -16,8 +16,8 @@ use core::time::Duration;
 
 /// A date time of UTC, in a year of 32 bits. (ISO 8601)
 ///
-/// Date times are compared field by field, so second 60 comes before the next minute's second 0, although both have the same
-/// Unix time.
+/// Date times are compared field by field, so second 60 comes before the next minute's second 0,
+/// although both have the same Unix time.
 #[repr(C)]
 #[derive(Clone, Copy, PartialEq, Eq, PartialOrd, Ord)]
 pub struct UtcDateTime {
@@ -26,7 +26,8 @@ pub struct UtcDateTime {
     unix_time: i64,
 }
 
-/// Whether the fields are second 60 of the last minute, which reads as a second past the years of 32 bits.
+/// Whether the fields are second 60 of the last minute, which reads as a second past the years of
+/// 32 bits.
 pub(crate) const fn is_past_the_end(fields: &Fields) -> bool {
     fields.year == i32::MAX
         && fields.month == 12
@@ -79,8 +80,9 @@ impl UtcDateTime {
         unix_time: 67_767_976_233_532_799,
     };
 
-    /// The date time with these fields: the month from 1 to 12, the day of the month from 1, the hour from 0 to 23, the minute from 0 to 59, the
-    /// second from 0 to 60 and the nanoseconds below a second.
+    /// The date time with these fields: the month from 1 to 12, the day of the month from 1, the
+    /// hour from 0 to 23, the minute from 0 to 59, the second from 0 to 60 and the nanoseconds
+    /// below a second.
     ///
     /// The Moon landing, in UTC:
     ///
@@ -94,9 +96,10 @@ impl UtcDateTime {
     ///
     /// # Errors
     ///
-    /// - [`TzError::OutOfRange`] for second 60 of the last minute of the year `i32::MAX`, whatever the nanoseconds;
-    /// - [`TzError::DateTime`] with the first field that is out of range, in the order of the arguments, or else with `InvalidMonthDay` if the month
-    ///   does not have the day.
+    /// - [`TzError::OutOfRange`] for second 60 of the last minute of the year `i32::MAX`, whatever
+    ///   the nanoseconds;
+    /// - [`TzError::DateTime`] with the first field that is out of range, in the order of the
+    ///   arguments, or else with `InvalidMonthDay` if the month does not have the day.
     pub const fn new(
         year: i32,
         month: u8,
@@ -137,7 +140,8 @@ impl UtcDateTime {
     ///
     /// # Errors
     ///
-    /// - [`TzError::DateTime`] with [`DateTimeError::InvalidNanoseconds`] if there are 10^9 nanoseconds or more;
+    /// - [`TzError::DateTime`] with [`DateTimeError::InvalidNanoseconds`] if there are 10^9
+    ///   nanoseconds or more;
     /// - [`TzError::OutOfRange`] if the year does not fit an `i32`.
     pub const fn from_timespec(unix_time: i64, nanoseconds: u32) -> Result<Self, TzError> {
         if nanoseconds >= NANOSECONDS_PER_SECOND {
@@ -149,7 +153,8 @@ impl UtcDateTime {
         Ok(UtcDateTime::at(unix_time, nanoseconds))
     }
 
-    /// The date time a number of nanoseconds after [`UtcDateTime::UNIX_EPOCH`], or before it if the number is negative.
+    /// The date time a number of nanoseconds after [`UtcDateTime::UNIX_EPOCH`], or before it if the
+    /// number is negative.
     ///
     /// # Errors
     ///
@@ -213,9 +218,13 @@ impl UtcDateTime {
     /// ```
     /// # use std::time::Duration;
     /// # use tz::{datetime::*, error::*, timezone::*, *};
-    /// pub fn next_monday_at_nine(zone: TimeZoneRef<'_>, now: i64) -> Result<Option<DateTime>, TzError> {
+    /// pub fn next_monday_at_nine(
+    ///     zone: TimeZoneRef<'_>,
+    ///     now: i64,
+    /// ) -> Result<Option<DateTime>, TzError> {
     ///     let today = DateTime::from_timespec(now, 0, zone)?;
-    ///     let nine = UtcDateTime::new(today.year(), today.month(), today.month_day(), 9, 0, 0, 0)?;
+    ///     let nine =
+    ///         UtcDateTime::new(today.year(), today.month(), today.month_day(), 9, 0, 0, 0)?;
     ///     for days in 0..8u64 {
     ///         let local = nine
     ///             .checked_add(Duration::from_secs(86_400 * days))
@@ -266,8 +275,8 @@ impl UtcDateTime {
 
     /// The date time later by a duration, or `None` if that is past [`UtcDateTime::MAX`].
     ///
-    /// A meeting at one local time each week. Weeks are added to the local time, not to the first instant: an hour may be lost or
-    /// gained between.
+    /// A meeting at one local time each week. Weeks are added to the local time, not to the first
+    /// instant: an hour may be lost or gained between.
     ///
     /// ```
     /// # use std::time::Duration;
@@ -281,7 +290,9 @@ impl UtcDateTime {
     ///     for week in 0..weeks {
     ///         let after_first = Duration::from_secs(604_800 * u64::from(week));
     ///         let local = first.checked_add(after_first).ok_or(TzError::OutOfRange)?;
-    ///         if let Some(meeting) = DateTime::from_local(local, Disambiguation::Compatible, zone)? {
+    ///         if let Some(meeting) =
+    ///             DateTime::from_local(local, Disambiguation::Compatible, zone)?
+    ///         {
     ///             meetings.push(meeting);
     ///         }
     ///     }
@@ -317,8 +328,9 @@ impl UtcDateTime {
     }
 }
 
-/// The date time later by a duration. That it is not past [`UtcDateTime::MAX`] is a requirement that is checked at compile time; there is no panic.
-/// [`UtcDateTime::checked_add`] has no such requirement.
+/// The date time later by a duration. Rattle requires a proof that it is not past
+/// [`UtcDateTime::MAX`]; the Rust crate panics if it is. [`UtcDateTime::checked_add`] returns
+/// `None` then.
 impl Add<Duration> for UtcDateTime {
     type Output = UtcDateTime;
 
@@ -328,8 +340,9 @@ impl Add<Duration> for UtcDateTime {
     }
 }
 
-/// The date time earlier by a duration. That it is not before [`UtcDateTime::MIN`] is a requirement that is checked at compile time; there is no
-/// panic. [`UtcDateTime::checked_sub`] has no such requirement.
+/// The date time earlier by a duration. Rattle requires a proof that it is not before
+/// [`UtcDateTime::MIN`]; the Rust crate panics if it is. [`UtcDateTime::checked_sub`] returns
+/// `None` then.
 impl Sub<Duration> for UtcDateTime {
     type Output = UtcDateTime;
 
@@ -346,7 +359,8 @@ impl AddAssign<Duration> for UtcDateTime {
     }
 }
 
-/// Subtracts a duration, with the requirement of `-`: the difference is not before [`UtcDateTime::MIN`].
+/// Subtracts a duration, with the requirement of `-`: the difference is not before
+/// [`UtcDateTime::MIN`].
 impl SubAssign<Duration> for UtcDateTime {
     fn sub_assign(&mut self, duration: Duration) {
         *self = *self - duration;

@@ -1,12 +1,11 @@
 // Generated from crates/tz/src/datetime/zone_data_searches.rt by bindings/erase: its contracts are cut. Change that file instead.
 //! Date times and searches in zones of plain data.
 
-use super::DateTime;
-use super::date_time_data::FoundData;
-use super::disambiguation::Summary;
-use super::entry_takers::DateTimeList;
+use super::date_time::FoundData;
+use super::ends::meant_in;
 use super::search::search;
 use super::slot_writer::SlotWriter;
+use super::{DateTime, Disambiguation};
 use crate::proved::tz_base::constants::NANOSECONDS_PER_SECOND;
 use crate::proved::tz_base::error::TzError;
 use crate::proved::tz_base::error::datetime::DateTimeError;
@@ -30,27 +29,16 @@ pub const fn from_timespec(
     DateTime::shown_by(unix_time, nanoseconds, *local_time_type)
 }
 
-/// Adds the entries for valid fields to the list, in order.
-#[inline(always)]
-pub(super) fn search_data<L: DateTimeList>(
-    list: &mut L,
-    fields: &Fields,
-    zone: &ZoneData<'_>,
-) -> Result<(), TzError> {
-    let mut view = Uncounted::new(zone.transitions());
-    let (least, greatest) = zone.offsets();
-    let parts = zone.other_parts();
-    search(list, fields, &mut view, parts, least, greatest)
-}
-
 /// Searches without writing anything. Not inlined, so that the search that writes stays small.
 #[cold]
 #[inline(never)]
 fn check_by_search(fields: &Fields, zone: &ZoneData<'_>) -> Result<(), TzError> {
-    search_data(&mut Summary::Nothing, fields, zone)
+    meant_in(fields.reading(), Disambiguation::Compatible, zone)?;
+    Ok(())
 }
 
-/// Searches for fields near the ends of the years, so that a search that is refused is refused before anything is written.
+/// Searches for fields near the ends of the years, so that a search that is refused is refused
+/// before anything is written.
 #[inline(always)]
 fn check_entries(fields: &Fields, zone: &ZoneData<'_>) -> Result<(), TzError> {
     // For the proof, which bounds the entries by these offsets.
@@ -62,7 +50,8 @@ fn check_entries(fields: &Fields, zone: &ZoneData<'_>) -> Result<(), TzError> {
     check_by_search(fields, zone)
 }
 
-/// Writes the entries for the fields, from one of them on, to the slots, as far as they go, and counts all.
+/// Writes the entries for the fields, from one of them on, to the slots, as far as they go, and
+/// counts all.
 pub fn find_into(
     slots: &mut [FoundData],
     skip: usize,
@@ -72,6 +61,7 @@ pub fn find_into(
     fields.check()?;
     check_entries(fields, zone)?;
     let mut writer = SlotWriter::new(slots, skip);
-    search_data(&mut writer, fields, zone)?;
+    let mut view = Uncounted::new(zone.transitions());
+    search(&mut writer, fields, &mut view, zone)?;
     Ok(writer.count)
 }

@@ -1,12 +1,84 @@
 // Generated from crates/tz/src/parse/date_and_time.rt by bindings/erase: its contracts are cut. Change that file instead.
-//! The date and the time of a text.
+//! Dates, times of day and offsets in a text. (RFC 3339, section 5.6)
 
 use super::error::{DateTimePart, Missing, expect};
-use super::number::{read_digits, read_pair, read_year};
 use crate::proved::tz::datetime::utc_date_time::is_past_the_end;
 use crate::proved::tz_base::calendar::days_in_month;
 use crate::proved::tz_base::fields::Fields;
 use crate::proved::tz_zone::inner::after_byte;
+
+/// The value of a digit, which is below 10; for every other byte it is 10 or more.
+#[inline(always)]
+pub fn value_of(byte: u8) -> u8 {
+    byte.wrapping_sub(b'0')
+}
+
+/// The number of the digits at the beginning of the bytes, and how many these are. In the position
+/// of a number of 10^19 or more stands some number that is no less than 10^19.
+#[inline(always)]
+pub fn read_digits(text: &[u8]) -> (u64, usize) {
+    let mut size = 0u64;
+    for (position, byte) in text.iter().enumerate() {
+        let digit = value_of(*byte);
+        if digit >= 10 {
+            return (size, position);
+        }
+        size = size.min(1_000_000_000_000_000_000) * 10 + u64::from(digit);
+    }
+    (size, text.len())
+}
+
+/// The number of two digits at the beginning, if it is in a range, and the bytes after it.
+#[inline(always)]
+pub(super) fn read_pair(text: &[u8], least: u8, greatest: u8) -> Option<(u8, &[u8])> {
+    let [tens, ones, rest @ ..] = text else {
+        return None;
+    };
+    let (tens, ones) = (value_of(*tens), value_of(*ones));
+    if tens >= 10 || ones >= 10 {
+        return None;
+    }
+    let number = 10 * tens + ones;
+    if number < least || number > greatest {
+        return None;
+    }
+    Some((number, rest))
+}
+
+/// Whether digits can be those of a year: four or more, or those of a number as it is printed.
+#[inline(always)]
+fn are_year_digits(digits: &[u8]) -> bool {
+    match digits {
+        [] => false,
+        [_] => true,
+        [first, ..] => digits.len() >= 4 || *first != b'0',
+    }
+}
+
+/// The number of the digits of a year, if it is one of 63 bits, and the bytes after them.
+#[inline(always)]
+fn read_year_digits(text: &[u8]) -> Option<(i64, &[u8])> {
+    let (size, count) = read_digits(text);
+    if !are_year_digits(&text[..count]) {
+        return None;
+    }
+    Some((i64::try_from(size).ok()?, &text[count..]))
+}
+
+/// The year at the beginning, and the bytes after it.
+#[inline(always)]
+pub(super) fn read_year(text: &[u8]) -> Option<(i32, &[u8])> {
+    match after_byte(text, b'-') {
+        Some(unsigned) => {
+            let (size, rest) = read_year_digits(unsigned)?;
+            Some((i32::try_from(-size).ok()?, rest))
+        }
+        None => {
+            let (size, rest) = read_year_digits(text)?;
+            Some((i32::try_from(size).ok()?, rest))
+        }
+    }
+}
 
 /// The date at the beginning, as fields at midnight, and the bytes after it.
 #[inline(always)]
@@ -41,7 +113,8 @@ fn read_second<'a>(date: &Fields, hour: u8, minute: u8, text: &'a [u8]) -> Optio
     Some((second, rest))
 }
 
-/// The nanoseconds of the fraction at the beginning, or 0 if there is no point, and the bytes after it.
+/// The nanoseconds of the fraction at the beginning, or 0 if there is no point, and the bytes after
+/// it.
 #[inline(always)]
 fn read_fraction(text: &[u8]) -> Option<(u32, &[u8])> {
     let Some(digits) = after_byte(text, b'.') else {
@@ -71,4 +144,93 @@ pub(super) fn read_time<'a>(
     let (year, month, month_day) = (date.year, date.month, date.month_day);
     let fields = Fields::new(year, month, month_day, hour, minute, second, nanoseconds);
     Ok((fields, text))
+}
+
+/// With what an offset begins.
+#[derive(Clone, Copy)]
+pub(super) enum OffsetMark {
+    /// Nothing: there is no offset.
+    Absent,
+    /// `Z`
+    Utc,
+    /// `+`
+    Ahead,
+    /// `-`
+    Behind,
+}
+
+/// The mark at the beginning, and the bytes after it.
+#[inline(always)]
+fn read_mark(text: &[u8]) -> Option<(OffsetMark, &[u8])> {
+    match text {
+        [] => Some((OffsetMark::Absent, text)),
+        [b'Z' | b'z', rest @ ..] => Some((OffsetMark::Utc, rest)),
+        [b'+', rest @ ..] => Some((OffsetMark::Ahead, rest)),
+        [b'-', rest @ ..] => Some((OffsetMark::Behind, rest)),
+        _ => None,
+    }
+}
+
+/// The hours at the beginning, and the bytes after them.
+#[inline(always)]
+fn read_hours(text: &[u8]) -> Option<(u32, &[u8])> {
+    let (size, count) = read_digits(text);
+    if count < 2 || size > 596_523 {
+        return None;
+    }
+    Some((size as u32, &text[count..]))
+}
+
+/// The minutes at the beginning, and the bytes after them.
+#[inline(always)]
+fn read_minutes(hours: u32, text: &[u8]) -> Option<(u8, &[u8])> {
+    let (minutes, rest) = read_pair(text, 0, 59)?;
+    if 3600 * hours + 60 * u32::from(minutes) > 2_147_483_647 {
+        return None;
+    }
+    Some((minutes, rest))
+}
+
+/// The seconds after a colon, or 0 if there is no colon, and the bytes after them.
+#[inline(always)]
+fn read_seconds(hours: u32, minutes: u8, text: &[u8]) -> Option<(u8, &[u8])> {
+    let Some(after) = after_byte(text, b':') else {
+        return Some((0, text));
+    };
+    let (seconds, rest) = read_pair(after, 0, 59)?;
+    if 3600 * hours + 60 * u32::from(minutes) + u32::from(seconds) > 2_147_483_647 {
+        return None;
+    }
+    Some((seconds, rest))
+}
+
+/// The seconds of an offset without its sign, and the bytes after it.
+#[inline(always)]
+fn read_duration(text: &[u8]) -> Result<(i32, &[u8]), Missing<'_>> {
+    let (hours, text) = expect(DateTimePart::OffsetHour, text, read_hours(text))?;
+    let text = expect(DateTimePart::Colon, text, after_byte(text, b':'))?;
+    let minutes = read_minutes(hours, text);
+    let (minutes, text) = expect(DateTimePart::OffsetMinute, text, minutes)?;
+    let seconds = read_seconds(hours, minutes, text);
+    let (seconds, text) = expect(DateTimePart::OffsetSecond, text, seconds)?;
+    let total = 3600 * hours + 60 * u32::from(minutes) + u32::from(seconds);
+    Ok((total as i32, text))
+}
+
+/// The offset at the beginning, if there is one, and the bytes after it.
+#[inline(always)]
+pub(super) fn read_offset(text: &[u8]) -> Result<(Option<i32>, &[u8]), Missing<'_>> {
+    let (mark, text) = expect(DateTimePart::Offset, text, read_mark(text))?;
+    match mark {
+        OffsetMark::Absent => Ok((None, text)),
+        OffsetMark::Utc => Ok((Some(0), text)),
+        OffsetMark::Ahead => {
+            let (seconds, rest) = read_duration(text)?;
+            Ok((Some(seconds), rest))
+        }
+        OffsetMark::Behind => {
+            let (seconds, rest) = read_duration(text)?;
+            Ok((Some(-seconds), rest))
+        }
+    }
 }

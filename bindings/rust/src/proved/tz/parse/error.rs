@@ -71,7 +71,7 @@ impl fmt::Display for DateTimePart {
 pub struct ParseDateTimeError {
     /// The part.
     pub expected: DateTimePart,
-    /// How many bytes stand before its place.
+    /// How many bytes stand before its position.
     pub position: usize,
 }
 

@@ -1,7 +1,6 @@
 // Generated from crates/tz_base/src/error/mod.rt by bindings/erase: its contracts are cut. Change that file instead.
 //! The error types, and what `?` makes of an error.
 
-mod conversions;
 pub mod datetime;
 pub mod parse;
 pub mod timezone;

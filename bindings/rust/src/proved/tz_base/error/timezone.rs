@@ -7,7 +7,8 @@ use core::{error, fmt};
 #[cfg_attr(not(feature = "inner"), non_exhaustive)]
 pub enum LocalTimeTypeError {
     /// The designation does not have 1 to 7 bytes.
-    // The text is that of tz-rs. POSIX wants 3 characters or more, but names of 1 and 2 are accepted, as tz-rs accepts them.
+    // The text is that of tz-rs. POSIX wants 3 characters or more, but names of 1 and 2 are
+    // accepted, as tz-rs accepts them.
     InvalidTimeZoneDesignationLength,
     /// A byte of the designation is not an ASCII letter or digit, `+` or `-`.
     InvalidTimeZoneDesignationChar,

@@ -1,8 +1,8 @@
 // Generated from crates/tz_rule/src/timezone/alternate_time.rt by bindings/erase: its contracts are cut. Change that file instead.
-//! Alternate rules: their parts, the ranges of these, and when daylight saving time starts and ends.
+//! Alternate rules: their parts, the ranges of these, and when daylight saving time starts and
+//! ends.
 
-use super::alternate_data::AlternateData;
-use super::day_data::DayData;
+use super::rule_day::DayData;
 use super::year_table::YearTable;
 use super::{LocalTimeType, RuleDay};
 use crate::proved::tz_base::error::timezone::TransitionRuleError;
@@ -45,14 +45,15 @@ impl Parts {
         Ok(())
     }
 
-    /// How many seconds after 00:00 UTC of January 1st daylight saving time starts, by the kind of the year. `day` is the part `dst_start` as a
-    /// `RuleDay`, which saves its conversion.
+    /// How many seconds after 00:00 UTC of January 1st daylight saving time starts, by the kind of
+    /// the year. `day` is the part `dst_start` as a `RuleDay`, which saves its conversion.
     #[inline(always)]
     pub(super) const fn starts(&self, day: &RuleDay) -> YearTable {
         YearTable::of_day(day, self.dst_start_time - self.std.ut_offset())
     }
 
-    /// How many seconds after 00:00 UTC of January 1st it ends, by the kind of the year. `day` is the part `dst_end`.
+    /// How many seconds after 00:00 UTC of January 1st it ends, by the kind of the year. `day` is
+    /// the part `dst_end`.
     #[inline(always)]
     pub(super) const fn ends(&self, day: &RuleDay) -> YearTable {
         YearTable::of_day(day, self.dst_end_time - self.dst.ut_offset())
@@ -61,23 +62,26 @@ impl Parts {
 
 /// Standard time and daylight saving time, and when each begins in every year.
 ///
-/// A start and an end never change their order from one year to another, at any distance in years. If some year's end comes before its start,
-/// daylight saving time lasts from each start to its end in the next year, and otherwise to its end in the same year.
+/// A start and an end never change their order from one year to another, at any distance in years.
+/// If some year's end comes before its start, daylight saving time lasts from each start to its end
+/// in the next year, and otherwise to its end in the same year.
 #[derive(Clone, Copy)]
 pub struct AlternateTime {
     plain: AlternateData,
-    // Both days once more: `dst_start()` and `dst_end()` lend a `RuleDay`, which the plain data has as numbers (`DayData`).
+    // Both days once more: `dst_start()` and `dst_end()` lend a `RuleDay`, which the plain data has
+    // as numbers (`DayData`).
     dst_start: RuleDay,
     dst_end: RuleDay,
 }
 
 impl AlternateTime {
-    /// The rule with these parts. Times are seconds from 00:00 of the local day; the start's is in standard time and the end's in daylight saving
-    /// time. (POSIX.1-2017, Base Definitions, 8.3)
+    /// The rule with these parts. Times are seconds from 00:00 of the local day; the start's is in
+    /// standard time and the end's in daylight saving time. (POSIX.1-2017, Base Definitions, 8.3)
     ///
     /// Offsets are above -25 and below 26 hours, and times less than a week either way.
     ///
-    /// The rule of New York, with daylight saving time from 2:00 on the second Sunday of March to 2:00 on the first Sunday of November:
+    /// The rule of New York, with daylight saving time from 2:00 on the second Sunday of March to
+    /// 2:00 on the first Sunday of November:
     ///
     /// ```
     /// # use std::time::Duration;
@@ -95,10 +99,12 @@ impl AlternateTime {
     ///
     /// The first of these:
     ///
-    /// - [`TransitionRuleError::InvalidStdUtcOffset`] if the offset of standard time is out of range;
+    /// - [`TransitionRuleError::InvalidStdUtcOffset`] if the offset of standard time is out of
+    ///   range;
     /// - [`TransitionRuleError::InvalidDstUtcOffset`] if that of daylight saving time is;
     /// - [`TransitionRuleError::InvalidDstStartEndTime`] if one of the two times is;
-    /// - [`TransitionRuleError::InconsistentRule`] if start and end change their order from one year to another.
+    /// - [`TransitionRuleError::InconsistentRule`] if start and end change their order from one
+    ///   year to another.
     pub const fn new(
         std: LocalTimeType,
         dst: LocalTimeType,
@@ -116,9 +122,9 @@ impl AlternateTime {
             dst_end_time,
         };
         match parts.check_range() {
-            Ok(value) => value,
+            Ok(()) => {}
             Err(error) => return Err(error),
-        };
+        }
         let starts = parts.starts(&dst_start);
         let ends = parts.ends(&dst_end);
         let Some(ends_next_year) = starts.order(&ends) else {
@@ -131,8 +137,9 @@ impl AlternateTime {
         })
     }
 
-    /// Why parts in range make no rule: two years x and y and a distance k in years, such that the start of x comes after the end of x + k, and the
-    /// start of y before the end of y + k. `None` if they make one, or are out of range.
+    /// Why parts in range make no rule: two years x and y and a distance k in years, such that the
+    /// start of x comes after the end of x + k, and the start of y before the end of y + k. `None`
+    /// if they make one, or are out of range.
     pub const fn conflict(
         std: LocalTimeType,
         dst: LocalTimeType,
@@ -161,7 +168,8 @@ impl AlternateTime {
         &self.dst_start
     }
 
-    /// When it starts on that day, in seconds from 00:00 of standard time, less than a week either way.
+    /// When it starts on that day, in seconds from 00:00 of standard time, less than a week either
+    /// way.
     pub const fn dst_start_time(&self) -> i32 {
         self.plain.dst_start_time()
     }
@@ -171,7 +179,8 @@ impl AlternateTime {
         &self.dst_end
     }
 
-    /// When it ends on that day, in seconds from 00:00 of daylight saving time, less than a week either way.
+    /// When it ends on that day, in seconds from 00:00 of daylight saving time, less than a week
+    /// either way.
     pub const fn dst_end_time(&self) -> i32 {
         self.plain.dst_end_time()
     }
@@ -215,5 +224,164 @@ impl fmt::Debug for AlternateTime {
             .field("dst_end", self.dst_end())
             .field("dst_end_time", &self.dst_end_time())
             .finish()
+    }
+}
+
+/// Standard time and daylight saving time, and when each begins in every year, in C's layout.
+#[repr(C)]
+#[derive(Clone, Copy)]
+pub struct AlternateData {
+    parts: Parts,
+    ends_next_year: bool,
+    has_inner_switches: bool,
+    starts: YearTable,
+    ends: YearTable,
+}
+
+impl AlternateData {
+    /// The rule with these parts, as `AlternateTime::new` makes it.
+    #[inline(always)]
+    pub const fn new(
+        std: LocalTimeType,
+        dst: LocalTimeType,
+        dst_start: DayData,
+        dst_start_time: i32,
+        dst_end: DayData,
+        dst_end_time: i32,
+    ) -> Result<Self, TransitionRuleError> {
+        match AlternateTime::new(
+            std,
+            dst,
+            dst_start.day(),
+            dst_start_time,
+            dst_end.day(),
+            dst_end_time,
+        ) {
+            Ok(rule) => Ok(*rule.plain()),
+            Err(error) => Err(error),
+        }
+    }
+
+    /// The rule of parts in range with their tables, whose starts and ends keep their order.
+    #[inline(always)]
+    pub(super) const fn of_tables(
+        parts: Parts,
+        starts: YearTable,
+        ends: YearTable,
+        ends_next_year: bool,
+    ) -> Self {
+        AlternateData {
+            parts,
+            ends_next_year,
+            has_inner_switches: starts.is_inner() && ends.is_inner(),
+            starts,
+            ends,
+        }
+    }
+
+    /// Why parts in range make no rule, as `AlternateTime::conflict` says it.
+    pub const fn conflict(
+        std: LocalTimeType,
+        dst: LocalTimeType,
+        dst_start: DayData,
+        dst_start_time: i32,
+        dst_end: DayData,
+        dst_end_time: i32,
+    ) -> Option<(i32, i32, i32)> {
+        let parts = Parts {
+            std,
+            dst,
+            dst_start,
+            dst_start_time,
+            dst_end,
+            dst_end_time,
+        };
+        match parts.check_range() {
+            Ok(()) => {}
+            Err(_) => return None,
+        }
+        let starts = parts.starts(&dst_start.day());
+        let ends = parts.ends(&dst_end.day());
+        starts.conflict(&ends)
+    }
+
+    /// The rule whose bytes are all zero: UTC without a name all year.
+    pub const fn zeros() -> Self {
+        let parts = Parts {
+            std: LocalTimeType::utc(),
+            dst: LocalTimeType::utc(),
+            dst_start: DayData::zeros(),
+            dst_start_time: 0,
+            dst_end: DayData::zeros(),
+            dst_end_time: 0,
+        };
+        AlternateData {
+            parts,
+            ends_next_year: false,
+            has_inner_switches: false,
+            starts: YearTable::zeros(),
+            ends: YearTable::zeros(),
+        }
+    }
+
+    /// The type of standard time.
+    pub const fn std(&self) -> &LocalTimeType {
+        &self.parts.std
+    }
+
+    /// The type of daylight saving time.
+    pub const fn dst(&self) -> &LocalTimeType {
+        &self.parts.dst
+    }
+
+    /// The day on which daylight saving time starts.
+    pub fn dst_start(&self) -> &DayData {
+        &self.parts.dst_start
+    }
+
+    /// When it starts on that day, in seconds from 00:00 of standard time.
+    pub const fn dst_start_time(&self) -> i32 {
+        self.parts.dst_start_time
+    }
+
+    /// The day on which daylight saving time ends.
+    pub fn dst_end(&self) -> &DayData {
+        &self.parts.dst_end
+    }
+
+    /// When it ends on that day, in seconds from 00:00 of daylight saving time.
+    pub const fn dst_end_time(&self) -> i32 {
+        self.parts.dst_end_time
+    }
+
+    /// The table of the starts of daylight saving time, or of its ends.
+    #[inline(always)]
+    pub(super) const fn table(&self, is_end: bool) -> &YearTable {
+        if is_end { &self.ends } else { &self.starts }
+    }
+
+    /// The instant at which daylight saving time starts, or ends, in a year.
+    pub(crate) const fn switch_in(&self, is_end: bool, year: i32) -> i64 {
+        self.parts_are_sound();
+        self.table(is_end).in_year(year)
+    }
+
+    /// Whether the end comes before the start in some year, so that daylight saving time lasts from
+    /// each start to its end in the next year.
+    #[inline(always)]
+    pub(crate) const fn ends_next_year(&self) -> bool {
+        self.ends_next_year
+    }
+
+    /// Whether each start and each end is ten days or more from the ends of its year.
+    #[inline(always)]
+    pub(super) const fn has_inner_switches(&self) -> bool {
+        self.has_inner_switches
+    }
+
+    /// The parts are those of a valid rule. This does nothing; its contract is what holds of every
+    /// value.
+    pub(crate) const fn parts_are_sound(&self) {
+        let _ = &self.parts;
     }
 }

@@ -1,14 +1,15 @@
 // Generated from crates/tz_rule/src/timezone/consistency.rt by bindings/erase: its contracts are cut. Change that file instead.
-//! Whether a rule is consistent: its starts and ends keep one order over all years and at each distance in years. If not, a conflict shows it.
+//! Whether a rule is consistent: its starts and ends keep one order over all years and at each
+//! distance in years. If not, a conflict shows it.
 //!
-//! Consistency is determined by the tables of both alone, without a year, and a conflict is looked for in the years from 1972 to 2000.
+//! Consistency is determined by the tables of both alone, without a year, and a conflict is looked
+//! for in the years from 1972 to 2000.
 
-use super::year_kinds::KINDS;
-use super::year_table::YearTable;
+use super::year_table::{KINDS, YearTable};
 use crate::proved::tz_base::constants::{SECONDS_PER_DAY, SECONDS_PER_NORMAL_YEAR};
 
-/// How many kinds there are of two years that follow one another: from 0 two normal years, from 7 a normal and a leap year, from 14 a leap and a
-/// normal year.
+/// How many kinds there are of two years that follow one another: from 0 two normal years, from 7 a
+/// normal and a leap year, from 14 a leap and a normal year.
 const PAIR_KINDS: usize = 21;
 
 /// The kind of the first year of each pair kind.
@@ -24,7 +25,8 @@ static SECOND_KINDS: [u8; PAIR_KINDS] = [
 /// The first of the years that stand for all years.
 const FIRST_MODEL_YEAR: i32 = 1972;
 
-/// How many there are. Each kind of year is that of one of 1972 to 1999, and each pair kind that of one of these and the year after it.
+/// How many there are. Each kind of year is that of one of 1972 to 1999, and each pair kind that of
+/// one of these and the year after it.
 const MODEL_YEARS: u8 = 29;
 
 /// The kind of the first year of a pair kind.
@@ -46,7 +48,8 @@ const fn first_days(pair: usize) -> u16 {
 }
 
 impl YearTable {
-    /// The seconds from 00:00 UTC of January 1st of the first year of a pair kind to the instant of the second.
+    /// The seconds from 00:00 UTC of January 1st of the first year of a pair kind to the instant of
+    /// the second.
     const fn next_entry(&self, pair: usize) -> i64 {
         let days = first_days(pair);
         self.entry(second_kind(pair)) + SECONDS_PER_DAY * days as i64
@@ -93,12 +96,13 @@ impl YearTable {
         self.comes_before_next(other) && self.comes_after_next(other)
     }
 
-    /// Whether ends come before starts (`self` is the table of starts), if the bounds of both tables show that their order never changes; `None` if
-    /// they do not show it.
+    /// Whether ends come before starts (`self` is the table of starts), if the bounds of both
+    /// tables show that their order never changes; `None` if they do not show it.
     const fn order_of_bounds(&self, ends: &YearTable) -> Option<bool> {
         let (first_start, last_start) = self.bounds();
         let (first_end, last_end) = ends.bounds();
-        // The bounds show an order only if no start comes after the next year's end, and no end after the next year's start.
+        // The bounds show an order only if no start comes after the next year's end, and no end
+        // after the next year's start.
         if last_start as i64 > first_end as i64 + SECONDS_PER_NORMAL_YEAR {
             return None;
         }
@@ -114,7 +118,8 @@ impl YearTable {
         None
     }
 
-    /// Whether the end of some year comes before its start. `None` if starts, of which this is the table, and ends change their order.
+    /// Whether the end of some year comes before its start. `None` if starts, of which this is the
+    /// table, and ends change their order.
     pub(super) const fn order(&self, ends: &YearTable) -> Option<bool> {
         if let Some(first) = self.order_of_bounds(ends) {
             return Some(first);
@@ -125,8 +130,9 @@ impl YearTable {
         Some(ends.comes_first(self))
     }
 
-    /// Whether starts, of which this is the table, and ends change their order at some distance in years. Only the distances 0, 1 and -1 need a look:
-    /// a start or an end lies less than ten days outside its year, so from two years on the order never changes.
+    /// Whether starts, of which this is the table, and ends change their order at some distance in
+    /// years. Only the distances 0, 1 and -1 need a look: a start or an end lies less than ten days
+    /// outside its year, so from two years on the order never changes.
     const fn changes_order(&self, ends: &YearTable) -> bool {
         if self.comes_first(ends) && ends.comes_first(self) {
             return true;
@@ -150,20 +156,20 @@ impl YearTable {
         None
     }
 
-    /// Two years of different order at a distance: the start, of which this is the table, is later in the first and earlier in the second.
+    /// Two years of different order at a distance: the start, of which this is the table, is later
+    /// in the first and earlier in the second.
     const fn conflict_at(&self, ends: &YearTable, distance: i32) -> Option<(i32, i32, i32)> {
-        let end_year = match ends.year_before(self, -distance) {
-            Some(value) => value,
-            None => return None,
+        let Some(end_year) = ends.year_before(self, -distance) else {
+            return None;
         };
-        let earlier = match self.year_before(ends, distance) {
-            Some(value) => value,
-            None => return None,
+        let Some(earlier) = self.year_before(ends, distance) else {
+            return None;
         };
         Some((end_year - distance, earlier, distance))
     }
 
-    /// Two years and a distance at which starts, of which this is the table, and ends change their order.
+    /// Two years and a distance at which starts, of which this is the table, and ends change their
+    /// order.
     pub(super) const fn conflict(&self, ends: &YearTable) -> Option<(i32, i32, i32)> {
         if let Some(found) = self.conflict_at(ends, 0) {
             return Some(found);

@@ -62,12 +62,13 @@ impl Designation {
     /// Checks and stores a name.
     #[inline(always)]
     const fn new(name: &[u8]) -> Result<Designation, LocalTimeTypeError> {
-        if name.is_empty() || name.len() > 7 {
+        let len = name.len();
+        if len < 1 || len > 7 {
             return Err(LocalTimeTypeError::InvalidTimeZoneDesignationLength);
         }
         let mut bytes = [0; 7];
         let mut index = 0;
-        while index < name.len() {
+        while index < len {
             if !is_designation_byte(name[index]) {
                 return Err(LocalTimeTypeError::InvalidTimeZoneDesignationChar);
             }
@@ -76,7 +77,7 @@ impl Designation {
         }
         Ok(Designation {
             bytes,
-            len: name.len() as u8,
+            len: len as u8,
         })
     }
 
@@ -94,7 +95,8 @@ impl Designation {
 }
 
 impl LocalTimeType {
-    /// The type with this offset in seconds, this daylight flag and this name of 1 to 7 bytes of `0-9A-Za-z+-`. (RFC 8536, section 3.2)
+    /// The type with this offset in seconds, this daylight flag and this name of 1 to 7 bytes of
+    /// `0-9A-Za-z+-`. (RFC 8536, section 3.2)
     ///
     /// Central European summer time, two hours ahead of UTC:
     ///
@@ -111,7 +113,8 @@ impl LocalTimeType {
     /// The first of these:
     ///
     /// - [`LocalTimeTypeError::InvalidUtcOffset`] if the offset is `i32::MIN`;
-    /// - [`LocalTimeTypeError::InvalidTimeZoneDesignationLength`] if the name does not have 1 to 7 bytes;
+    /// - [`LocalTimeTypeError::InvalidTimeZoneDesignationLength`] if the name does not have 1 to 7
+    ///   bytes;
     /// - [`LocalTimeTypeError::InvalidTimeZoneDesignationChar`] if it has any other byte.
     pub const fn new(
         ut_offset: i32,
@@ -123,7 +126,7 @@ impl LocalTimeType {
         }
         let time_zone_designation = match time_zone_designation {
             Some(name) => match Designation::new(name) {
-                Ok(value) => value,
+                Ok(designation) => designation,
                 Err(error) => return Err(error),
             },
             None => Designation::none(),

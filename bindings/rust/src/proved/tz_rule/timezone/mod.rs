@@ -1,20 +1,14 @@
 // Generated from crates/tz_rule/src/timezone/mod.rt by bindings/erase: its contracts are cut. Change that file instead.
 //! Local time types, rule days and alternate rules.
 
-pub(crate) mod alternate_data;
-mod alternate_time;
+pub(crate) mod alternate_time;
 mod consistency;
-pub(crate) mod day_data;
 mod local_time_type;
 pub(crate) mod rule_changes;
-pub(crate) mod rule_data;
-mod rule_day;
-pub(crate) mod rule_ref;
+pub(crate) mod rule_day;
 pub(crate) mod rule_segments;
-mod rule_years;
-mod transition_rule;
+pub(crate) mod transition_rule;
 pub(crate) mod utc_statics;
-mod year_kinds;
 mod year_table;
 
 pub use alternate_time::AlternateTime;

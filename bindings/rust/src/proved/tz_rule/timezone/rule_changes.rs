@@ -1,14 +1,16 @@
 // Generated from crates/tz_rule/src/timezone/rule_changes.rt by bindings/erase: its contracts are cut. Change that file instead.
 //! The changes of a rule's type: the first one after an instant, and the last one up to it.
 //!
-//! Mostly that is the start or the end of daylight saving time next to the instant, which the tables' entries of its likely year, or of that year and
-//! one neighbour, determine. Otherwise, as near some New Years, if a start and an end coincide, or at the ends of the rule's years, a walk goes on
-//! from segment to segment. A rule without a change is known by its types and tables, and is not walked over.
+//! Mostly that is the start or the end of daylight saving time next to the instant, which the
+//! tables' entries of its likely year, or of that year and one neighbour, determine. Otherwise, as
+//! near some New Years, if a start and an end coincide, or at the ends of the rule's years, a walk
+//! goes on from segment to segment. A rule without a change is known by its types and tables, and
+//! is not walked over.
 
 use super::LocalTimeType;
-use super::alternate_data::AlternateData;
-use super::rule_ref::RuleRef;
-use super::rule_years::likely_year;
+use super::alternate_time::AlternateData;
+use super::transition_rule::RuleRef;
+use super::year_table::likely_year;
 
 /// A change of a rule, from one type to another.
 #[derive(Clone, Copy)]
@@ -21,14 +23,16 @@ pub struct RuleChange<'a> {
     pub after: &'a LocalTimeType,
 }
 
-/// A start or an end of daylight saving time at which the rule has the other type than at the instant before.
+/// A start or an end of daylight saving time at which the rule has the other type than at the
+/// instant before.
 #[derive(Clone, Copy)]
 struct Switch {
     unix_time: i64,
     is_start: bool,
 }
 
-/// The switch at this instant. `earlier` and `later` are it and its neighbour; `None` if both come at one instant.
+/// The switch at this instant. `earlier` and `later` are it and its neighbour; `None` if both come
+/// at one instant.
 #[inline(always)]
 const fn switch_between(
     unix_time: i64,
@@ -52,13 +56,8 @@ const fn change_by_types<'a>(
     before: Option<&'a LocalTimeType>,
     after: Option<&'a LocalTimeType>,
 ) -> Option<RuleChange<'a>> {
-    let before = match before {
-        Some(value) => value,
-        None => return None,
-    };
-    let after = match after {
-        Some(value) => value,
-        None => return None,
+    let (Some(before), Some(after)) = (before, after) else {
+        return None;
     };
     if before.is_same(after) {
         return None;
@@ -71,10 +70,12 @@ const fn change_by_types<'a>(
 }
 
 impl AlternateData {
-    /// The last start or end up to an instant near the moved year, and the next one after it. Either is `None` if it meets the other one of its year.
-    /// `end_is_first` is as in `segment_by_order`.
+    /// The last start or end up to an instant near the moved year, and the next one after it.
+    /// Either is `None` if it meets the other one of its year. `end_is_first` is as in
+    /// `segment_by_order`.
     ///
-    /// The second one of a year never meets the first one of the next year, since both are far inside their years.
+    /// The second one of a year never meets the first one of the next year, since both are far
+    /// inside their years.
     #[inline(always)]
     const fn switches_by_order(
         &self,
@@ -112,15 +113,15 @@ impl AlternateData {
         )
     }
 
-    /// The last switch up to an instant and the next one after it, if the types differ and the likely year determines them.
+    /// The last switch up to an instant and the next one after it, if the types differ and the
+    /// likely year determines them.
     #[inline(always)]
     const fn switches_around(&self, unix_time: i64) -> Option<(Option<Switch>, Option<Switch>)> {
         if !self.has_inner_switches() || self.std().is_same(self.dst()) {
             return None;
         }
-        let moved_year = match likely_year(unix_time) {
-            Some(value) => value,
-            None => return None,
+        let Some(moved_year) = likely_year(unix_time) else {
+            return None;
         };
         if self.ends_next_year() {
             return Some(self.switches_by_order(true, unix_time, moved_year));
@@ -138,8 +139,8 @@ impl AlternateData {
         }
     }
 
-    /// Whether the rule is known to have no change: its types are equal, or daylight saving time never begins before it ends, or never ends before it
-    /// begins again.
+    /// Whether the rule is known to have no change: its types are equal, or daylight saving time
+    /// never begins before it ends, or never ends before it begins again.
     const fn has_one_type(&self) -> bool {
         self.parts_are_sound();
         if self.std().is_same(self.dst()) {
@@ -192,7 +193,8 @@ impl AlternateData {
         None
     }
 
-    /// The first change after an instant. Not inlined, so that walks over a zone's transitions stay small.
+    /// The first change after an instant. Not inlined, so that walks over a zone's transitions stay
+    /// small.
     #[inline(never)]
     const fn change_after(&self, unix_time: i64) -> Option<RuleChange<'_>> {
         match self.switches_around(unix_time) {

@@ -4,18 +4,30 @@
 use crate::proved::tz_base::calendar;
 use crate::proved::tz_base::error::timezone::TransitionRuleError;
 
-/// The day of a month of this length, counted from 0, on which a week day falls for the w-th time, or for week 5 for the last time, if it first falls
-/// on day `first`.
+/// The day of a month of this length, counted from 0, on which a week day falls for the w-th time,
+/// or for week 5 for the last time, if it first falls on day `first`.
 #[inline(always)]
-const fn nth_place(first: u8, days: u8, week: u8) -> u8 {
-    let place = first + 7 * (week - 1);
-    if place < days { place } else { place - 7 }
+const fn nth_week_day(first: u8, days: u8, week: u8) -> u8 {
+    let day = first + 7 * (week - 1);
+    if day < days { day } else { day - 7 }
 }
 
-/// The place in a year that begins one week day later: a day earlier, or the last of the seven places if it was the first.
+/// The first of the seven days of a month of this length that a week day's w-th one, or for week 5
+/// its last one, may be, counted from 0.
+const fn least_day(days: u8, week: u8) -> u8 {
+    let (usual, last) = (7 * (week - 1), days - 7);
+    if last < usual { last } else { usual }
+}
+
+/// The day of a year that begins one week day later: a day earlier, or the last of the seven days
+/// that it may be if it was the first.
 #[inline(always)]
-const fn place_before(place: u16, least: u16) -> u16 {
-    if place == least { least + 6 } else { place - 1 }
+const fn year_day_before(year_day: u16, least: u16) -> u16 {
+    if year_day == least {
+        least + 6
+    } else {
+        year_day - 1
+    }
 }
 
 /// The n-th of a year's days that are not February 29th, from 1 to 365. (POSIX.1-2017, 8.3: `Jn`.)
@@ -41,13 +53,14 @@ impl Julian1WithoutLeap {
     }
 
     /// How many days after January 1st the day is, in a leap year or another one.
-    const fn place(&self, leap: bool) -> u16 {
+    const fn year_day(&self, leap: bool) -> u16 {
         let day = self.0;
         if leap && day > 59 { day } else { day - 1 }
     }
 }
 
-/// The day n days after January 1st, from 0 to 365. In a year that is not leap 365 is the next January 1st. (POSIX.1-2017, 8.3: `n`.)
+/// The day n days after January 1st, from 0 to 365. In a year that is not leap 365 is the next
+/// January 1st. (POSIX.1-2017, 8.3: `n`.)
 #[derive(Clone, Copy, Debug, PartialEq, Eq)]
 pub struct Julian0WithLeap(pub(super) u16);
 
@@ -70,7 +83,8 @@ impl Julian0WithLeap {
     }
 }
 
-/// The first, second, third, fourth or last (5) of a month's days with a given week day. (POSIX.1-2017, 8.3: `Mm.w.d`.)
+/// The first, second, third, fourth or last (5) of a month's days with a given week day.
+/// (POSIX.1-2017, 8.3: `Mm.w.d`.)
 #[derive(Clone, Copy, Debug, PartialEq, Eq)]
 pub struct MonthWeekDay {
     pub(super) month: u8,
@@ -79,9 +93,11 @@ pub struct MonthWeekDay {
 }
 
 impl MonthWeekDay {
-    /// The week day of a month: the month from 1 to 12, the week from 1 to 5, where 5 is the last, and the week day from 0 (Sunday) to 6.
+    /// The week day of a month: the month from 1 to 12, the week from 1 to 5, where 5 is the last,
+    /// and the week day from 0 (Sunday) to 6.
     ///
-    /// The second Sunday of March is the day 3, 2, 0. See the example at [`AlternateTime::new`](super::AlternateTime::new).
+    /// The second Sunday of March is the day 3, 2, 0. See the example at
+    /// [`AlternateTime::new`](super::AlternateTime::new).
     ///
     /// # Errors
     ///
@@ -122,24 +138,25 @@ impl MonthWeekDay {
         self.week_day
     }
 
-    /// How many days after January 1st the day is in leap years or in the others, for each week day of January 1st.
+    /// How many days after January 1st the day is in leap years or in the others, for each week day
+    /// of January 1st.
     ///
-    /// The place is found for a year that begins on a Sunday. If January 1st is one week day later, the day is one day earlier, or the last of its
-    /// seven places if it was the first.
-    const fn places(&self, leap: bool) -> [u16; 7] {
+    /// The day is found for a year that begins on a Sunday. If January 1st is one week day later,
+    /// it is one day earlier, or the last of the seven days that it may be if it was the first.
+    const fn year_days(&self, leap: bool) -> [u16; 7] {
         let before = calendar::days_before_month(leap, self.month);
         let days = calendar::days_of_month(leap, self.month);
-        let least = before + (crate::shim::least!((7 * (self.week - 1)), days - 7)) as u16;
+        let least = before + least_day(days, self.week) as u16;
         let first = (self.week_day + 7 - (before % 7) as u8) % 7;
-        let mut place = before + nth_place(first, days, self.week) as u16;
-        let mut places = [0; 7];
+        let mut year_day = before + nth_week_day(first, days, self.week) as u16;
+        let mut year_days = [0; 7];
         let mut week_day = 0;
         while week_day < 7 {
-            places[week_day] = place;
-            place = place_before(place, least);
+            year_days[week_day] = year_day;
+            year_day = year_day_before(year_day, least);
             week_day += 1;
         }
-        places
+        year_days
     }
 }
 
@@ -168,12 +185,82 @@ impl PartialEq for RuleDay {
 impl Eq for RuleDay {}
 
 impl RuleDay {
-    /// How many days after January 1st the day is in leap years or in the others, for each week day of January 1st.
-    pub(super) const fn places(&self, leap: bool) -> [u16; 7] {
+    /// How many days after January 1st the day is in leap years or in the others, for each week day
+    /// of January 1st.
+    pub(super) const fn year_days(&self, leap: bool) -> [u16; 7] {
         match self {
-            RuleDay::Julian1WithoutLeap(day) => [day.place(leap); 7],
+            RuleDay::Julian1WithoutLeap(day) => [day.year_day(leap); 7],
             RuleDay::Julian0WithLeap(day) => [day.get(); 7],
-            RuleDay::MonthWeekDay(day) => day.places(leap),
+            RuleDay::MonthWeekDay(day) => day.year_days(leap),
+        }
+    }
+}
+
+/// A day of each year as numbers, in C's layout: six bytes, of which those that its kind does not
+/// use are zero.
+#[repr(C)]
+#[derive(Clone, Copy)]
+pub struct DayData {
+    /// The number of a Julian day, from 1, or of a zero-based one.
+    number: u16,
+    /// 0: zero-based (`n`), 1: Julian (`Jn`), 2: a week day of a month (`Mm.w.d`).
+    kind: u8,
+    month: u8,
+    week: u8,
+    week_day: u8,
+}
+
+impl DayData {
+    /// The numbers of a rule day.
+    #[inline(always)]
+    pub const fn of(day: &RuleDay) -> Self {
+        match day {
+            RuleDay::Julian0WithLeap(day) => DayData {
+                number: day.get(),
+                kind: 0,
+                month: 0,
+                week: 0,
+                week_day: 0,
+            },
+            RuleDay::Julian1WithoutLeap(day) => DayData {
+                number: day.get(),
+                kind: 1,
+                month: 0,
+                week: 0,
+                week_day: 0,
+            },
+            RuleDay::MonthWeekDay(day) => DayData {
+                number: 0,
+                kind: 2,
+                month: day.month(),
+                week: day.week(),
+                week_day: day.week_day(),
+            },
+        }
+    }
+
+    /// The day whose bytes are all zero: January 1st.
+    pub const fn zeros() -> Self {
+        DayData {
+            number: 0,
+            kind: 0,
+            month: 0,
+            week: 0,
+            week_day: 0,
+        }
+    }
+
+    /// The rule day with these numbers.
+    #[inline(always)]
+    pub const fn day(&self) -> RuleDay {
+        match self.kind {
+            0 => RuleDay::Julian0WithLeap(Julian0WithLeap(self.number)),
+            1 => RuleDay::Julian1WithoutLeap(Julian1WithoutLeap(self.number)),
+            _ => RuleDay::MonthWeekDay(MonthWeekDay {
+                month: self.month,
+                week: self.week,
+                week_day: self.week_day,
+            }),
         }
     }
 }

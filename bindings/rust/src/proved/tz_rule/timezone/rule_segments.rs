@@ -1,16 +1,18 @@
 // Generated from crates/tz_rule/src/timezone/rule_segments.rt by bindings/erase: its contracts are cut. Change that file instead.
-//! The segment of an alternate rule around an instant, from one start or end of daylight saving time up to the next, and the type there.
+//! The segment of an alternate rule around an instant, from one start or end of daylight saving
+//! time up to the next, and the type there.
 //!
-//! The switches (starts and ends) of the likely year, which is the instant's or a neighbour near a New Year, and of its neighbours determine the
-//! segment: always if all lie ten days or more inside their years, and otherwise mostly. If they do not, as near some New Years and more than 1.9
-//! billion years from 1970, the determining year is taken instead: the instant's year in UTC or a neighbour, chosen by the first switches of that
-//! year and the next.
+//! The switches (starts and ends) of the likely year, which is the instant's or a neighbour near a
+//! New Year, and of its neighbours determine the segment: always if all lie ten days or more inside
+//! their years, and otherwise mostly. If they do not, as near some New Years and more than 1.9
+//! billion years from 1970, the determining year is taken instead: the instant's year in UTC or a
+//! neighbour, chosen by the first switches of that year and the next.
 
 use super::LocalTimeType;
-use super::alternate_data::AlternateData;
-use super::rule_years::{FIRST_YEAR, LAST_YEAR, likely_year, new_year, rule_year};
+use super::alternate_time::AlternateData;
+use super::year_table::{FIRST_YEAR, LAST_YEAR, likely_year, new_year, rule_year};
 use crate::proved::tz_base::calendar;
-use crate::proved::tz_base::error::TzError;
+use crate::proved::tz_base::order::{greater_i64, lesser_i64};
 
 /// A span of time through which a rule has one type, or none.
 #[derive(Clone, Copy)]
@@ -58,9 +60,11 @@ impl AlternateData {
         self.table(is_end).in_moved_year(moved_year)
     }
 
-    /// The segment that holds an instant, if the moved year and its neighbours determine it; otherwise a segment near by.
+    /// The segment that holds an instant, if the moved year and its neighbours determine it;
+    /// otherwise a segment near by.
     ///
-    /// `end_is_first` is `ends_next_year()`: whether some year's end comes before its start, so that daylight saving time ends in the next year.
+    /// `end_is_first` is `ends_next_year()`: whether some year's end comes before its start, so
+    /// that daylight saving time ends in the next year.
     #[inline(always)]
     const fn segment_by_order(
         &self,
@@ -92,14 +96,15 @@ impl AlternateData {
         }
     }
 
-    /// The segment of the likely year or its neighbours that the instant chooses: mostly the one around it.
+    /// The segment of the likely year or its neighbours that the instant chooses: mostly the one
+    /// around it.
     ///
-    /// Each order has code of its own, which costs fewer steps than tables that are chosen by the order.
+    /// Each order has code of its own, which costs fewer steps than tables that are chosen by the
+    /// order.
     #[inline(always)]
     const fn near_segment(&self, unix_time: i64) -> Option<AlternateSegment> {
-        let moved_year = match likely_year(unix_time) {
-            Some(value) => value,
-            None => return None,
+        let Some(moved_year) = likely_year(unix_time) else {
+            return None;
         };
         let segment = if self.ends_next_year() {
             self.segment_by_order(true, unix_time, moved_year)
@@ -109,7 +114,8 @@ impl AlternateData {
         Some(segment)
     }
 
-    /// The segment around an instant, if the rule's switches are such that the likely year always determines it.
+    /// The segment around an instant, if the rule's switches are such that the likely year always
+    /// determines it.
     #[inline(always)]
     const fn inner_segment(&self, unix_time: i64) -> Option<AlternateSegment> {
         if !self.has_inner_switches() {
@@ -121,9 +127,8 @@ impl AlternateData {
     /// The segment around an instant, if the likely year determines it.
     #[inline(always)]
     const fn likely_segment(&self, unix_time: i64) -> Option<AlternateSegment> {
-        let segment = match self.near_segment(unix_time) {
-            Some(value) => value,
-            None => return None,
+        let Some(segment) = self.near_segment(unix_time) else {
+            return None;
         };
         if unix_time < segment.from || segment.until <= unix_time {
             return None;
@@ -131,7 +136,8 @@ impl AlternateData {
         Some(segment)
     }
 
-    /// The year whose switches, with those of its neighbours, determine the segment around an instant of a year in UTC.
+    /// The year whose switches, with those of its neighbours, determine the segment around an
+    /// instant of a year in UTC.
     const fn determining_year(&self, end_is_first: bool, unix_time: i64, year: i32) -> i32 {
         self.parts_are_sound();
         if unix_time < self.switch_in(end_is_first, year) {
@@ -143,18 +149,18 @@ impl AlternateData {
         year + 1
     }
 
-    /// The segment around an instant by its year in UTC, within the years over which the rule is defined.
+    /// The segment around an instant by its year in UTC, within the years over which the rule is
+    /// defined.
     const fn segment_in_year(&self, unix_time: i64) -> Option<AlternateSegment> {
-        let year = match rule_year(unix_time) {
-            Some(value) => value,
-            None => return None,
+        let Some(year) = rule_year(unix_time) else {
+            return None;
         };
         let end_is_first = self.ends_next_year();
         let moved_year = calendar::moved_year(self.determining_year(end_is_first, unix_time, year));
         let segment = self.segment_by_order(end_is_first, unix_time, moved_year);
         Some(AlternateSegment {
-            from: crate::shim::greatest!(segment.from, new_year(FIRST_YEAR)),
-            until: crate::shim::least!(segment.until, new_year(LAST_YEAR + 1)),
+            from: greater_i64(segment.from, new_year(FIRST_YEAR)),
+            until: lesser_i64(segment.until, new_year(LAST_YEAR + 1)),
             is_daylight: segment.is_daylight,
         })
     }
@@ -187,36 +193,13 @@ impl AlternateData {
         }
     }
 
-    /// The segment around an instant: from one start or end of daylight saving time up to the next, or outside the years of rules.
+    /// The segment around an instant: from one start or end of daylight saving time up to the next,
+    /// or outside the years of rules.
     #[inline(always)]
     pub(crate) const fn segment(&self, unix_time: i64) -> RuleSegment<'_> {
         match self.inner_segment(unix_time) {
             Some(segment) => self.rule_segment(unix_time, segment),
             None => self.outer_segment(unix_time),
-        }
-    }
-
-    /// The type at an instant that the likely year does not always determine.
-    #[inline(never)]
-    const fn outer_type(&self, unix_time: i64) -> Result<&LocalTimeType, TzError> {
-        if let Some(segment) = self.likely_segment(unix_time) {
-            return Ok(self.type_by(segment.is_daylight));
-        }
-        let Some(segment) = self.segment_in_year(unix_time) else {
-            return Err(TzError::OutOfRange);
-        };
-        Ok(self.type_by(segment.is_daylight))
-    }
-
-    /// The type at an instant.
-    #[inline(always)]
-    pub(crate) const fn find_local_time_type(
-        &self,
-        unix_time: i64,
-    ) -> Result<&LocalTimeType, TzError> {
-        match self.inner_segment(unix_time) {
-            Some(segment) => Ok(self.type_by(segment.is_daylight)),
-            None => self.outer_type(unix_time),
         }
     }
 }

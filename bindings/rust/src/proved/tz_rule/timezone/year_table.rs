@@ -1,26 +1,63 @@
 // Generated from crates/tz_rule/src/timezone/year_table.rt by bindings/erase: its contracts are cut. Change that file instead.
-//! Tables of an instant of each year, by the kind of the year. Their order, and how it changes, is in `consistency.rt`.
+//! The days of a rule in each kind of year, and the years around an instant.
 
 use super::RuleDay;
-use super::year_kinds::{KINDS, moved_year_start};
-use crate::proved::tz_base::calendar;
+use crate::proved::tz_base::calendar::{
+    self, ADDED_DAYS, days_before_moved_year, first_day_of_year, is_moved_year_leap, moved_seconds,
+};
+use crate::proved::tz_base::constants::SECONDS_PER_DAY;
+use crate::proved::tz_base::fields::{Fields, is_reading};
+use crate::proved::tz_base::order::{greater_i32, lesser_i32};
 
-/// How many seconds after 00:00 UTC of January 1st an instant of the year is, for each kind of years.
+/// How many kinds of years there are.
+pub(super) const KINDS: usize = 14;
+
+/// The kind of the years that are leap, or are not, and whose January 1st has the week day.
+#[inline(always)]
+const fn kind_of(leap: bool, first_week_day: u8) -> usize {
+    let week_day = first_week_day as usize;
+    if leap { 7 + week_day } else { week_day }
+}
+
+/// A seventh of 2^64, rounded up.
+const SEVENTH: u64 = 2_635_249_153_387_078_803;
+
+/// The days modulo 7. If r is that remainder, `days * SEVENTH` modulo 2^64 is r sevenths of 2^64,
+/// or slightly more.
+#[inline(always)]
+const fn days_over_weeks(days: u64) -> u8 {
+    let fraction = days.wrapping_mul(SEVENTH);
+    (fraction as u128 * 7 / 18_446_744_073_709_551_616) as u8
+}
+
+/// 00:00 UTC of a moved year's January 1st, and the kind of the year.
+#[inline(always)]
+pub(super) const fn moved_year_start(moved_year: u64) -> (i64, usize) {
+    let days = days_before_moved_year(moved_year);
+    // The days are counted from January 1st of the year -2147484000, a Saturday: 6 from Sunday = 0.
+    let kind = kind_of(is_moved_year_leap(moved_year), days_over_weeks(days + 6));
+    (SECONDS_PER_DAY * (days as i64 - ADDED_DAYS), kind)
+}
+
+/// How many seconds after 00:00 UTC of January 1st an instant of the year is, for each kind of
+/// years.
 #[repr(C)]
 #[derive(Clone, Copy)]
 pub(super) struct YearTable([i32; KINDS]);
 
-/// Ten days after New Year. If no start and no end lies before it, or in the last ten days of its year, the likely year determines the segment: it is
-/// another one than the instant's only within two days of a New Year, where then no start or end lies.
+/// Ten days after New Year. If no start and no end lies before it, or in the last ten days of its
+/// year, the likely year determines the segment: it is another one than the instant's only within
+/// two days of a New Year, where then no start or end lies.
 const INNER_START: i32 = 864_000;
 
 /// Ten days before the end of the shortest year.
 const INNER_END: i32 = 30_672_000;
 
-/// The seconds from 00:00 UTC of January 1st to a time after 00:00 UTC of the day at a place of the year.
+/// The seconds from 00:00 UTC of January 1st to a time after 00:00 UTC of a day of the year, from
+/// 0.
 #[inline(always)]
-const fn seconds_to(place: u16, seconds: i32) -> i32 {
-    86_400 * place as i32 + seconds
+const fn seconds_to(year_day: u16, seconds: i32) -> i32 {
+    86_400 * year_day as i32 + seconds
 }
 
 impl YearTable {
@@ -31,8 +68,8 @@ impl YearTable {
 
     /// The table of a time after 00:00 UTC of a rule day, in seconds.
     pub(super) const fn of_day(day: &RuleDay, seconds: i32) -> YearTable {
-        let normal = day.places(false);
-        let leap = day.places(true);
+        let normal = day.year_days(false);
+        let leap = day.year_days(true);
         let mut entries = [0; KINDS];
         let mut week_day = 0;
         while week_day < 7 {
@@ -67,16 +104,57 @@ impl YearTable {
         let (mut least, mut greatest) = (i32::MAX, i32::MIN);
         let mut kind = 0;
         while kind < KINDS {
-            least = crate::shim::least!(least, self.0[kind]);
-            greatest = crate::shim::greatest!(greatest, self.0[kind]);
+            least = lesser_i32(least, self.0[kind]);
+            greatest = greater_i32(greatest, self.0[kind]);
             kind += 1;
         }
         (least, greatest)
     }
 
-    /// Whether the instant of each year is ten days or more from the ends of the year, also if that has 365 days.
+    /// Whether the instant of each year is ten days or more from the ends of the year, also if that
+    /// has 365 days.
     pub(super) const fn is_inner(&self) -> bool {
         let (least, greatest) = self.bounds();
         INNER_START <= least && greatest < INNER_END
     }
+}
+
+/// The first year over which a rule is defined.
+pub(super) const FIRST_YEAR: i32 = i32::MIN + 2;
+
+/// The last year over which a rule is defined.
+pub(super) const LAST_YEAR: i32 = i32::MAX - 2;
+
+/// How far from 1970 `likely_year` has an answer: up to there the year of an instant, the two
+/// before it and the two after it are years over which a rule is defined.
+const GREATEST_DISTANCE: i64 = 60_000_000_000_000_000;
+
+/// The seconds of a year, on the average of 400 years.
+const SECONDS_PER_YEAR: u64 = 31_556_952;
+
+/// 00:00 UTC of a year's January 1st.
+pub(super) const fn new_year(year: i32) -> i64 {
+    SECONDS_PER_DAY * first_day_of_year(year)
+}
+
+/// The year of an instant in UTC, if rules are defined over it.
+pub(super) const fn rule_year(unix_time: i64) -> Option<i32> {
+    if !is_reading(unix_time) {
+        return None;
+    }
+    let year = Fields::from_reading(unix_time, 0).year;
+    if year < FIRST_YEAR || year > LAST_YEAR {
+        return None;
+    }
+    Some(year)
+}
+
+/// The year of an instant in UTC, or a neighbour of it if the New Year between them is less than
+/// two days away, moved by cycles of 400 years.
+#[inline(always)]
+pub(super) const fn likely_year(unix_time: i64) -> Option<u64> {
+    if unix_time < -GREATEST_DISTANCE || unix_time > GREATEST_DISTANCE {
+        return None;
+    }
+    Some(moved_seconds(unix_time) / SECONDS_PER_YEAR)
 }

@@ -1,22 +1,24 @@
 // Generated from crates/tz_zone/src/clock/following.rt by bindings/erase: its contracts are cut. Change that file instead.
 //! The first change of a zone's clock after an instant.
 //!
-//! Up to the last transition a walk goes from place to place. It reads the types of transitions, and looks for the instant at which one takes
-//! effect only if its type is another than the one before. From the last one on the rule has the changes.
+//! Up to the last transition a walk goes from position to position. It reads the types of
+//! transitions, and looks for the instant at which one takes effect only if its type is another
+//! than the one before. From the last one on the rule has the changes.
 
-use super::change::{Change, change_at};
-use super::likely_place::{is_after_all, place_at_near, place_near};
-use super::types_at_places::{type_at, type_before, type_of};
+use super::lookup::{type_at, type_before, type_of};
+use super::position::position_in;
+use super::segment::{Change, change_at};
 use crate::proved::tz_rule::inner::change_after;
 use crate::proved::tz_rule::timezone::LocalTimeType;
-use crate::proved::tz_zone::leap::from_leap_time::effect_if_reached;
-use crate::proved::tz_zone::leap::to_leap_time::{existing_leap_time, first_begun};
-use crate::proved::tz_zone::table::{OtherParts, Transition, Uncounted};
+use crate::proved::tz_zone::leap::leap_time::{effect_if_reached, existing_leap_time, first_begun};
+use crate::proved::tz_zone::table::Uncounted;
+use crate::proved::tz_zone::timezone::zone_data::ZoneData;
 
-/// The first change of a rule after an instant: that of a zone with the rule and without transitions.
+/// The first change of a rule after an instant: that of a zone with the rule and without
+/// transitions.
 #[inline(always)]
-const fn following_by_rule<'a>(parts: OtherParts<'a>, unix_time: i64) -> Option<Change<'a>> {
-    let rule = match parts.extra_rule.lent() {
+const fn following_by_rule<'a>(zone: &ZoneData<'a>, unix_time: i64) -> Option<Change<'a>> {
+    let rule = match zone.rule() {
         Some(value) => value,
         None => return None,
     };
@@ -27,186 +29,155 @@ const fn following_by_rule<'a>(parts: OtherParts<'a>, unix_time: i64) -> Option<
     Some(Change::new(change.unix_time, change.before, change.after))
 }
 
-/// The place at which the effect of a transition lies. It is not right after the transition where the next one takes effect at the same instant.
+/// The position at which the effect of a transition lies. It is not right after the transition
+/// where the next one takes effect at the same instant.
 #[inline(always)]
-const fn place_at_effect(
-    transitions: &[Transition],
-    parts: OtherParts<'_>,
-    index: usize,
-    effect: i64,
-) -> usize {
-    let place = index + 1;
-    if parts.leap_seconds.is_empty() {
-        return place;
+const fn position_at_effect(zone: &ZoneData<'_>, index: usize, effect: i64) -> usize {
+    let transitions = zone.transitions;
+    let mut position = index + 1;
+    if zone.leap_seconds.is_empty() {
+        return position;
     }
-    place_near(
-        transitions,
-        existing_leap_time(parts.leap_seconds, effect),
-        Some(place),
-    )
+    let unix_leap_time = existing_leap_time(zone.leap_seconds, effect);
+    while position < transitions.len() && transitions[position].unix_leap_time() <= unix_leap_time {
+        position += 1;
+    }
+    position
 }
 
-/// The last place of the run of `place`: the transitions from `place` up to it are to one type, `local_time_type`. The place after all transitions is
-/// a run of its own: from there on the rule has the types.
+/// The last position of the run of `position`: the transitions from `position` up to it are to one
+/// type, `local_time_type`. The position after all transitions is a run of its own: from there on
+/// the rule has the types.
 #[inline(always)]
 const fn end_of_run(
-    transitions: &[Transition],
-    parts: OtherParts<'_>,
-    place: usize,
+    zone: &ZoneData<'_>,
+    position: usize,
     local_time_type: &LocalTimeType,
 ) -> usize {
-    let mut end = place;
-    while end + 1 < transitions.len() && type_of(parts, transitions[end]).is_same(local_time_type) {
+    let transitions = zone.transitions;
+    let mut end = position;
+    while end + 1 < transitions.len() && type_of(zone, transitions[end]).is_same(local_time_type) {
         end += 1;
     }
     end
 }
 
-/// The first instant from another one on that has a leap time, and the place at which it lies. In a zone without transitions it is the other one
-/// itself.
+/// The first instant from another one on that has a leap time, and the position at which it lies.
 #[inline(always)]
-const fn first_place(
-    transitions: &[Transition],
-    parts: OtherParts<'_>,
-    unix_time: i64,
-    likely: Option<usize>,
-) -> Option<(i64, usize)> {
-    if transitions.is_empty() {
-        return Some((unix_time, 0));
-    }
-    let first = match first_begun(parts.leap_seconds, unix_time) {
+const fn first_position(zone: &ZoneData<'_>, unix_time: i64) -> Option<(i64, usize)> {
+    let first = match first_begun(zone.leap_seconds, unix_time) {
         Some(value) => value,
         None => return None,
     };
-    let place = match place_at_near(transitions, parts, first, likely) {
+    let position = match position_in(zone, first) {
         Some(value) => value,
         None => return None,
     };
-    Some((first, place))
+    Some((first, position))
 }
 
-/// The change at the next transition after an instant that lies at a place, if there are no leap seconds, that transition is to another type, and it
-/// is not the last one. Mostly it is so, and then nothing is walked.
+/// The change at the next transition after an instant that lies at a position, and the position
+/// after it, if there are no leap seconds, that transition is to another type, and it is not the
+/// last one. Mostly it is so, and then nothing is walked.
 #[inline(always)]
 const fn change_at_next<'a>(
-    transitions: &[Transition],
-    parts: OtherParts<'a>,
+    zone: &ZoneData<'a>,
     unix_time: i64,
-    place: usize,
-) -> Option<Change<'a>> {
-    if !parts.leap_seconds.is_empty() || transitions.len() <= place + 1 {
+    position: usize,
+) -> Option<(Change<'a>, usize)> {
+    let transitions = zone.transitions;
+    if !zone.leap_seconds.is_empty() || transitions.len() <= position + 1 {
         return None;
     }
-    let next = transitions[place];
-    let before = type_before(&mut Uncounted::new(transitions), parts, place);
-    let after = type_of(parts, next);
-    change_at(next.unix_leap_time(), Some(before), Some(after))
+    let next = transitions[position];
+    let before = type_before(&mut Uncounted::new(transitions), zone, position);
+    let after = type_of(zone, next);
+    let change = match change_at(next.unix_leap_time(), Some(before), Some(after)) {
+        Some(value) => value,
+        None => return None,
+    };
+    Some((change, position + 1))
 }
 
-/// The first change of the clock after an instant that lies at a place, and the place after it.
+/// The first change of the clock after an instant that lies at a position, and the position after
+/// it.
 #[inline(never)]
 const fn following_from<'a>(
-    transitions: &[Transition],
-    parts: OtherParts<'a>,
+    zone: &ZoneData<'a>,
     unix_time: i64,
-    place: usize,
+    position: usize,
 ) -> Option<(Change<'a>, usize)> {
+    let transitions = zone.transitions;
     let mut since = unix_time;
-    let mut place = place;
-    while place < transitions.len() {
-        let before = type_before(&mut Uncounted::new(transitions), parts, place);
-        let end = end_of_run(transitions, parts, place, before);
-        let effect = match effect_if_reached(parts.leap_seconds, transitions[end].unix_leap_time())
-        {
+    let mut position = position;
+    while position < transitions.len() {
+        let before = type_before(&mut Uncounted::new(transitions), zone, position);
+        let end = end_of_run(zone, position, before);
+        let effect = match effect_if_reached(zone.leap_seconds, transitions[end].unix_leap_time()) {
             Some(value) => value,
             None => return None,
         };
-        let next = place_at_effect(transitions, parts, end, effect);
-        let after = type_at(transitions, parts, next, effect);
+        let next = position_at_effect(zone, end, effect);
+        let after = type_at(zone, next, effect);
         if let Some(change) = change_at(effect, Some(before), after) {
             return Some((change, next));
         }
         since = effect;
-        place = next;
+        position = next;
     }
-    let change = match following_by_rule(parts, since) {
+    let change = match following_by_rule(zone, since) {
         Some(value) => value,
         None => return None,
     };
-    Some((change, place))
+    Some((change, position))
 }
 
-/// The change at the transition after a place, if the one before the place takes effect at the instant. That one compare shows that the instant lies
-/// there, since times rise.
+/// The change at the transition after a position, and the position after it, if the one before the
+/// position takes effect at the instant. That one compare shows that the instant lies there, since
+/// times rise.
 #[inline(always)]
 pub const fn change_after_last<'a>(
-    transitions: &[Transition],
-    parts: OtherParts<'a>,
+    zone: &ZoneData<'a>,
     unix_time: i64,
-    place: usize,
-) -> Option<Change<'a>> {
-    if place == 0 || transitions.len() <= place || !parts.leap_seconds.is_empty() {
+    position: usize,
+) -> Option<(Change<'a>, usize)> {
+    let transitions = zone.transitions;
+    if position == 0 || transitions.len() <= position || !zone.leap_seconds.is_empty() {
         return None;
     }
-    if transitions[place - 1].unix_leap_time() != unix_time {
+    if transitions[position - 1].unix_leap_time() != unix_time {
         return None;
     }
-    change_at_next(transitions, parts, unix_time, place)
+    change_at_next(zone, unix_time, position)
 }
 
-/// The first change of the clock after an instant, and the place after it.
-///
-/// A place at which the instant is likely to lie is tried first: a wrong one costs time and no more.
+/// The first change of the clock after an instant, and the position after it.
 #[inline(always)]
 pub const fn find_following<'a>(
-    transitions: &[Transition],
-    parts: OtherParts<'a>,
+    zone: &ZoneData<'a>,
     unix_time: i64,
-    likely: Option<usize>,
 ) -> Option<(Change<'a>, usize)> {
-    let (since, place) = match first_place(transitions, parts, unix_time, likely) {
+    let transitions = zone.transitions;
+    if transitions.is_empty() {
+        let change = match following_by_rule(zone, unix_time) {
+            Some(value) => value,
+            None => return None,
+        };
+        return Some((change, 0));
+    }
+    let (since, position) = match first_position(zone, unix_time) {
         Some(value) => value,
         None => return None,
     };
-    if place == transitions.len() {
-        let change = match following_by_rule(parts, since) {
+    if position == transitions.len() {
+        let change = match following_by_rule(zone, since) {
             Some(value) => value,
             None => return None,
         };
-        return Some((change, place));
+        return Some((change, position));
     }
-    if let Some(change) = change_at_next(transitions, parts, since, place) {
-        return Some((change, place + 1));
+    if let Some(found) = change_at_next(zone, since, position) {
+        return Some(found);
     }
-    following_from(transitions, parts, since, place)
-}
-
-/// What `find_following` returns if the place is tried first. Not inlined, so that a step by the rule stays small.
-#[inline(never)]
-const fn following_anew<'a>(
-    transitions: &[Transition],
-    parts: OtherParts<'a>,
-    unix_time: i64,
-    place: usize,
-) -> Option<(Change<'a>, usize)> {
-    find_following(transitions, parts, unix_time, Some(place))
-}
-
-/// The first change of the clock after an instant, and the place after it. If the given place is that after all transitions, one compare decides
-/// whether the rule has the change. Another wrong place costs time and no more.
-#[inline(always)]
-pub const fn following_near<'a>(
-    transitions: &[Transition],
-    parts: OtherParts<'a>,
-    unix_time: i64,
-    place: usize,
-) -> Option<(Change<'a>, usize)> {
-    if place == transitions.len() && is_after_all(transitions, parts, unix_time) {
-        let change = match following_by_rule(parts, unix_time) {
-            Some(value) => value,
-            None => return None,
-        };
-        return Some((change, place));
-    }
-    following_anew(transitions, parts, unix_time, place)
+    following_from(zone, since, position)
 }

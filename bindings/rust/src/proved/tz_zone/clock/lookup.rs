@@ -1,18 +1,102 @@
 // Generated from crates/tz_zone/src/clock/lookup.rt by bindings/erase: its contracts are cut. Change that file instead.
-//! The clock's type at an instant, over a view of the transitions: that of the transition before the instant's place, type number 0 before the first
-//! transition, and from the last one on, or in a zone without transitions, that of `after_table`, or none.
+//! The clock's type at an instant, over a view of the transitions.
 
-use super::after_table::after_table;
-use super::place::place_at;
-use super::types_at_places::type_before;
+use super::position::position_at;
+use super::segment::Segment;
 use crate::proved::tz_base::error::TzError;
 use crate::proved::tz_rule::timezone::LocalTimeType;
-use crate::proved::tz_zone::table::{OtherParts, Uncounted};
+use crate::proved::tz_zone::table::{Transition, Uncounted};
+use crate::proved::tz_zone::timezone::zone_data::ZoneData;
 
-/// Why there is no type from the last transition on, or in a zone without transitions: there is no rule, or it is not defined at the instant.
+/// The segment around an instant of a clock whose transitions are all reached, or of one that has
+/// none: that of the extra rule. Without a rule the segment is all time, with type number 0 if the
+/// zone has no transitions, and otherwise with none.
 #[inline(always)]
-const fn fault_after(parts: OtherParts<'_>) -> TzError {
-    match parts.extra_rule.lent() {
+pub(super) const fn after_table<'a>(
+    zone: &ZoneData<'a>,
+    is_empty: bool,
+    unix_time: i64,
+) -> Segment<'a> {
+    let Some(rule) = zone.rule() else {
+        return Segment {
+            from: i64::MIN,
+            last: i64::MAX,
+            local_time_type: if is_empty {
+                Some(&zone.local_time_types[0])
+            } else {
+                None
+            },
+        };
+    };
+    let segment = crate::proved::tz_rule::inner::segment_at(rule, unix_time);
+    Segment {
+        from: segment.from,
+        last: segment.last,
+        local_time_type: segment.local_time_type,
+    }
+}
+
+/// The type at an instant from the last transition on. Not inlined, so that walks over positions
+/// stay small.
+#[inline(never)]
+pub(super) const fn type_from_last<'a>(
+    zone: &ZoneData<'a>,
+    unix_time: i64,
+) -> Option<&'a LocalTimeType> {
+    after_table(zone, false, unix_time).local_time_type
+}
+
+/// The last transition before a position. If there is none, one at the least leap time, to the
+/// first type.
+#[inline(always)]
+pub(super) const fn before(view: &mut Uncounted<'_>, position: usize) -> Transition {
+    if position == 0 {
+        return Transition::new(i64::MIN, 0);
+    }
+    view.look(position - 1)
+}
+
+/// The type of a transition.
+#[inline(always)]
+pub(super) const fn type_of<'a>(zone: &ZoneData<'a>, change: Transition) -> &'a LocalTimeType {
+    &zone.local_time_types[change.local_time_type_index()]
+}
+
+/// The type of the last transition before a position, or the first type if there is none.
+#[inline(always)]
+pub(super) const fn type_before<'a>(
+    view: &mut Uncounted<'_>,
+    zone: &ZoneData<'a>,
+    position: usize,
+) -> &'a LocalTimeType {
+    let change = before(view, position);
+    type_of(zone, change)
+}
+
+/// The type at an instant, from a position at which it lies, or from an earlier position whose type
+/// is the same.
+#[inline(always)]
+pub(super) const fn type_at<'a>(
+    zone: &ZoneData<'a>,
+    position: usize,
+    unix_time: i64,
+) -> Option<&'a LocalTimeType> {
+    let transitions = zone.transitions;
+    if position == transitions.len() {
+        return type_from_last(zone, unix_time);
+    }
+    Some(type_before(
+        &mut Uncounted::new(transitions),
+        zone,
+        position,
+    ))
+}
+
+/// Why there is no type from the last transition on, or in a zone without transitions: there is no
+/// rule, or it is not defined at the instant.
+#[inline(always)]
+const fn fault_after(zone: &ZoneData<'_>) -> TzError {
+    match zone.rule() {
         Some(_) => TzError::OutOfRange,
         None => TzError::NoAvailableLocalTimeType,
     }
@@ -22,20 +106,20 @@ const fn fault_after(parts: OtherParts<'_>) -> TzError {
 #[inline(always)]
 pub const fn find_local_time_type<'a>(
     view: &mut Uncounted<'_>,
-    parts: OtherParts<'a>,
+    zone: &ZoneData<'a>,
     unix_time: i64,
 ) -> Result<&'a LocalTimeType, TzError> {
     let count = view.len();
     if count > 0 {
-        let Some(place) = place_at(view, parts, unix_time) else {
+        let Some(position) = position_at(view, zone, unix_time) else {
             return Err(TzError::OutOfRange);
         };
-        if place < count {
-            return Ok(type_before(view, parts, place));
+        if position < count {
+            return Ok(type_before(view, zone, position));
         }
     }
-    match after_table(parts, count == 0, unix_time).local_time_type {
+    match after_table(zone, count == 0, unix_time).local_time_type {
         Some(local_time_type) => Ok(local_time_type),
-        None => Err(fault_after(parts)),
+        None => Err(fault_after(zone)),
     }
 }

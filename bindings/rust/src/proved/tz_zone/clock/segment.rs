@@ -1,21 +1,79 @@
 // Generated from crates/tz_zone/src/clock/segment.rt by bindings/erase: its contracts are cut. Change that file instead.
-//! Segments: spans of time through which a clock keeps its type, and the one around an instant.
+//! Changes of a clock, and segments: spans of time through which it keeps its type.
 
-use super::after_table::after_table;
-use super::place::place_at;
-use super::types_at_places::{before, type_of};
+use super::lookup::{after_table, before, type_of};
+use super::position::position_at;
 use crate::proved::tz_rule::timezone::LocalTimeType;
 use crate::proved::tz_zone::leap::LeapSecond;
-use crate::proved::tz_zone::leap::from_leap_time::{effect_of_reached, last_before};
-use crate::proved::tz_zone::leap::to_leap_time::{
-    first_begun, has_begun, last_instant, last_instant_up_to,
+use crate::proved::tz_zone::leap::leap_time::{
+    effect_of_reached, first_begun, has_begun, last_before, last_instant, last_instant_up_to,
 };
-use crate::proved::tz_zone::table::{OtherParts, Transition, Uncounted};
+use crate::proved::tz_zone::table::{Transition, Uncounted};
+use crate::proved::tz_zone::timezone::zone_data::ZoneData;
+
+/// A change of the clock of a zone, from one type to another.
+#[derive(Clone, Copy, Debug, PartialEq, Eq)]
+pub struct Change<'a> {
+    unix_time: i64,
+    before: &'a LocalTimeType,
+    after: &'a LocalTimeType,
+}
+
+impl<'a> Change<'a> {
+    /// The change with these parts.
+    pub(crate) const fn new(
+        unix_time: i64,
+        before: &'a LocalTimeType,
+        after: &'a LocalTimeType,
+    ) -> Self {
+        Change {
+            unix_time,
+            before,
+            after,
+        }
+    }
+
+    /// The first instant with the new type, in Unix seconds.
+    pub const fn unix_time(&self) -> i64 {
+        self.unix_time
+    }
+
+    /// The type at the instant before.
+    pub const fn before(&self) -> &'a LocalTimeType {
+        self.before
+    }
+
+    /// The type from the instant on.
+    pub const fn after(&self) -> &'a LocalTimeType {
+        self.after
+    }
+}
+
+/// The change at an instant, by the types at the instant before and at it.
+#[inline(always)]
+pub(super) const fn change_at<'a>(
+    unix_time: i64,
+    before: Option<&'a LocalTimeType>,
+    after: Option<&'a LocalTimeType>,
+) -> Option<Change<'a>> {
+    let before = match before {
+        Some(value) => value,
+        None => return None,
+    };
+    let after = match after {
+        Some(value) => value,
+        None => return None,
+    };
+    if before.is_same(after) {
+        return None;
+    }
+    Some(Change::new(unix_time, before, after))
+}
 
 /// A span of time through which the clock of a zone has one type, or none.
 ///
-/// The next segment may have the same type: a segment also ends at a transition to an equal type. A [`Change`](super::Change) is an instant at which
-/// the type differs.
+/// The next segment may have the same type: a segment also ends at a transition to an equal type. A
+/// [`Change`](super::Change) is an instant at which the type differs.
 #[derive(Clone, Copy, Debug, PartialEq, Eq)]
 pub struct Segment<'a> {
     pub(super) from: i64,
@@ -29,7 +87,7 @@ impl<'a> Segment<'a> {
         self.from
     }
 
-    /// The last instant, in Unix seconds. The next segment begins a second later.
+    /// The last instant, in Unix seconds. The segment around the next one may begin before it.
     pub const fn last(&self) -> i64 {
         self.last
     }
@@ -78,36 +136,36 @@ const fn undefined_segment<'a>(leap_seconds: &[LeapSecond], unix_time: i64) -> S
 /// The segment around an instant at which the last transition is reached.
 #[inline(always)]
 const fn segment_from_last<'a>(
-    parts: OtherParts<'a>,
+    zone: &ZoneData<'a>,
     last: Transition,
     unix_time: i64,
 ) -> Segment<'a> {
-    let from = effect_of_reached(parts.leap_seconds, last.unix_leap_time());
-    let segment = after_table(parts, false, unix_time);
+    let from = effect_of_reached(zone.leap_seconds, last.unix_leap_time());
+    let segment = after_table(zone, false, unix_time);
     Segment {
         from: crate::shim::greatest!(from, segment.from),
-        last: last_instant_up_to(parts.leap_seconds, segment.last),
+        last: last_instant_up_to(zone.leap_seconds, segment.last),
         local_time_type: segment.local_time_type,
     }
 }
 
-/// The segment around an instant that lies at a place.
+/// The segment around an instant that lies at a position.
 #[inline(always)]
-const fn segment_at_place<'a>(
+const fn segment_at_position<'a>(
     view: &mut Uncounted<'_>,
-    parts: OtherParts<'a>,
-    place: usize,
+    zone: &ZoneData<'a>,
+    position: usize,
     unix_time: i64,
 ) -> Segment<'a> {
-    let before = before(view, place);
-    if place == view.len() {
-        return segment_from_last(parts, before, unix_time);
+    let before = before(view, position);
+    if position == view.len() {
+        return segment_from_last(zone, before, unix_time);
     }
-    let next = view.look(place);
+    let next = view.look(position);
     Segment {
-        from: effect_of_reached(parts.leap_seconds, before.unix_leap_time()),
-        last: last_before(parts.leap_seconds, next.unix_leap_time()),
-        local_time_type: Some(type_of(parts, before)),
+        from: effect_of_reached(zone.leap_seconds, before.unix_leap_time()),
+        last: last_before(zone.leap_seconds, next.unix_leap_time()),
+        local_time_type: Some(type_of(zone, before)),
     }
 }
 
@@ -115,14 +173,14 @@ const fn segment_at_place<'a>(
 #[inline(always)]
 pub const fn clock_segment_at<'a>(
     view: &mut Uncounted<'_>,
-    parts: OtherParts<'a>,
+    zone: &ZoneData<'a>,
     unix_time: i64,
 ) -> Segment<'a> {
     if view.len() == 0 {
-        return after_table(parts, true, unix_time);
+        return after_table(zone, true, unix_time);
     }
-    let Some(place) = place_at(view, parts, unix_time) else {
-        return undefined_segment(parts.leap_seconds, unix_time);
+    let Some(position) = position_at(view, zone, unix_time) else {
+        return undefined_segment(zone.leap_seconds, unix_time);
     };
-    segment_at_place(view, parts, place, unix_time)
+    segment_at_position(view, zone, position, unix_time)
 }

@@ -1,9 +1,36 @@
 // Generated from crates/tz_zone/src/leap/table.rt by bindings/erase: its contracts are cut. Change that file instead.
-//! The table of leap seconds: what a sound one is, where it begins and where it expires, and the correction at a place. (RFC 8536, section 3.2;
-//! RFC 9636, section 3.2)
+//! Leap seconds.
 
-use super::LeapSecond;
 use crate::proved::tz_base::constants::SECONDS_PER_28_DAYS;
+
+/// A leap time from which on leap time is ahead of Unix time by a correction.
+#[repr(C)]
+#[derive(Clone, Copy, Debug, PartialEq, Eq)]
+pub struct LeapSecond {
+    unix_leap_time: i64,
+    correction: i32,
+}
+
+impl LeapSecond {
+    /// The leap second at this leap time, from which on leap time is ahead of Unix time by this
+    /// correction.
+    pub const fn new(unix_leap_time: i64, correction: i32) -> Self {
+        LeapSecond {
+            unix_leap_time,
+            correction,
+        }
+    }
+
+    /// The leap time at which the correction begins.
+    pub const fn unix_leap_time(&self) -> i64 {
+        self.unix_leap_time
+    }
+
+    /// The seconds by which leap time is ahead of Unix time from then on.
+    pub const fn correction(&self) -> i32 {
+        self.correction
+    }
+}
 
 /// Whether a leap second may come first.
 const fn may_be_first(leap_second: LeapSecond) -> bool {
@@ -27,14 +54,15 @@ const fn may_follow(leap_second: &LeapSecond, next: &LeapSecond) -> bool {
         && is_one_second_apart(leap_second.correction(), next.correction())
 }
 
-/// Whether the record after a place comes later and, unless it is the table's expiry, is a leap second that may follow.
-const fn follows_at(leap_seconds: &[LeapSecond], place: usize) -> bool {
-    if place + 1 == leap_seconds.len() {
+/// Whether the record after an index comes later and, unless it is the table's expiry, is a leap
+/// second that may follow.
+const fn follows_at(leap_seconds: &[LeapSecond], index: usize) -> bool {
+    if index + 1 == leap_seconds.len() {
         return true;
     }
-    let leap_second = &leap_seconds[place];
-    let next = &leap_seconds[place + 1];
-    if place + 2 == leap_seconds.len() && next.correction() == leap_second.correction() {
+    let leap_second = &leap_seconds[index];
+    let next = &leap_seconds[index + 1];
+    if index + 2 == leap_seconds.len() && next.correction() == leap_second.correction() {
         return leap_second.unix_leap_time() < next.unix_leap_time();
     }
     may_follow(leap_second, next)
@@ -58,7 +86,8 @@ pub(crate) const fn are_leap_seconds(leap_seconds: &[LeapSecond]) -> bool {
     true
 }
 
-/// The truncated start: the first record, if its correction is neither 1 nor -1. Instants before it have no leap time. (RFC 9636, 3.2)
+/// The truncated start: the first record, if its correction is neither 1 nor -1. Instants before it
+/// have no leap time. (RFC 9636, 3.2)
 pub(crate) const fn truncated_start(leap_seconds: &[LeapSecond]) -> Option<&LeapSecond> {
     let first = match leap_seconds.first() {
         Some(value) => value,
@@ -92,12 +121,14 @@ pub(crate) fn expiry(leap_seconds: &[LeapSecond]) -> Option<i64> {
     Some(last.unix_leap_time())
 }
 
-/// Whether the table begins with its first leap second and does not expire, as in files before version 4.
+/// Whether the table begins with its first leap second and does not expire, as in files before
+/// version 4.
 pub(crate) fn is_plain_table(leap_seconds: &[LeapSecond]) -> bool {
     truncated_start(leap_seconds).is_none() && expiry(leap_seconds).is_none()
 }
 
-/// The correction before the first place of the list: 0, but the first one's own at a truncated start.
+/// The correction before the first index of the list: 0, but the first one's own at a truncated
+/// start.
 pub(crate) const fn correction_at_start(leap_seconds: &[LeapSecond]) -> i32 {
     match truncated_start(leap_seconds) {
         Some(start) => start.correction(),
@@ -105,10 +136,10 @@ pub(crate) const fn correction_at_start(leap_seconds: &[LeapSecond]) -> i32 {
     }
 }
 
-/// The correction before a place of the list.
-pub(crate) const fn correction_before(leap_seconds: &[LeapSecond], place: usize) -> i32 {
-    if place == 0 {
+/// The correction before an index of the list.
+pub(crate) const fn correction_before(leap_seconds: &[LeapSecond], index: usize) -> i32 {
+    if index == 0 {
         return correction_at_start(leap_seconds);
     }
-    leap_seconds[place - 1].correction()
+    leap_seconds[index - 1].correction()
 }

@@ -1,18 +1,14 @@
 // Generated from crates/tz_zone/src/timezone/mod.rt by bindings/erase: its contracts are cut. Change that file instead.
 //! Transitions, leap seconds and time zones.
 
-mod change_iterators;
-mod changes_and_segments;
-pub(crate) mod file_reader;
-mod file_search;
-pub(crate) mod offset_range;
+mod changes;
+pub(crate) mod files;
+pub(crate) mod plain_zone;
 mod settings;
 mod zone;
 mod zone_checks;
 pub(crate) mod zone_data;
-mod zone_name;
-mod zone_of_file;
-mod zone_of_tz_string;
+mod zone_of_bytes;
 mod zone_ref;
 
 pub use crate::proved::tz_rule::timezone::{
@@ -22,9 +18,8 @@ pub use crate::proved::tz_rule::timezone::{
 pub use crate::proved::tz_zone::clock::{Change, Segment};
 pub use crate::proved::tz_zone::leap::LeapSecond;
 pub use crate::proved::tz_zone::table::Transition;
-pub use change_iterators::{ChangesAfter, ChangesBefore};
-pub use file_reader::{read_file, read_file_up_to, read_up_to};
-pub use settings::{DEFAULT_DIRECTORIES, TimeZoneSettings};
+pub use changes::{ChangesAfter, ChangesBefore};
+pub use files::{read_file, read_file_up_to, read_up_to};
+pub use settings::{DEFAULT_DIRECTORIES, TimeZoneSettings, is_zone_name};
 pub use zone::TimeZone;
-pub use zone_name::is_zone_name;
 pub use zone_ref::TimeZoneRef;

@@ -1,13 +1,54 @@
 // Generated from crates/tz_zone/src/timezone/settings.rt by bindings/erase: its contracts are cut. Change that file instead.
-//! Settings by which the time zone of a string is found.
+//! Names of time zones.
 
 use super::TimeZone;
-use super::zone_name::{is_zone_name, no_such_zone, not_a_name};
-use super::zone_of_tz_string::zone_of_tz_string;
+use super::zone_of_bytes::zone_of_tz_string;
 use crate::proved::tz_base::error::parse::TzStringError;
 use crate::proved::tz_base::error::{Error, ReadFault, TzError};
 use crate::shim::Vec;
 use crate::shim::alloc::{Allocator, Global};
+use crate::shim::anyhow;
+
+/// Whether a name may have the byte.
+fn is_name_byte(byte: u8) -> bool {
+    matches!(byte, b'0'..=b'9' | b'A'..=b'Z' | b'a'..=b'z' | b'.' | b'_' | b'+' | b'-')
+}
+
+/// Whether all of the bytes may stand in a name.
+fn are_name_bytes(part: &[u8]) -> bool {
+    for byte in part {
+        if !is_name_byte(*byte) {
+            return false;
+        }
+    }
+    true
+}
+
+/// Whether a name may have the part.
+fn is_name_part(part: &[u8]) -> bool {
+    !matches!(part, [] | [b'.'] | [b'.', b'.']) && are_name_bytes(part)
+}
+
+/// Whether the text is a name of the form that [`TimeZone::named`](crate::timezone::TimeZone::named) looks
+/// for. (tz database, Timezone identifiers)
+///
+/// A name has one part or several, with `/` between them. A part is one or more ASCII letters,
+/// digits, `.`, `_`, `+` and `-`, and neither `.` nor `..`.
+pub fn is_zone_name(name: &str) -> bool {
+    name.as_bytes()
+        .split(|byte| *byte == b'/')
+        .all(is_name_part)
+}
+
+/// The error of a text that is no name.
+pub(super) fn not_a_name(text: &str) -> crate::shim::anyhow::Error {
+    anyhow!("not a time zone name: {text}")
+}
+
+/// The error of a name that no zone has.
+pub(super) fn no_such_zone(name: &str) -> crate::shim::anyhow::Error {
+    anyhow!("no time zone has the name {name}")
+}
 
 /// The directories in which systems keep their time zone files.
 pub const DEFAULT_DIRECTORIES: &[&str] =
@@ -27,7 +68,6 @@ fn after_colon(text: &str) -> Option<&str> {
 }
 
 /// The zone of the bytes of a file.
-#[inline(never)]
 fn zone_of_bytes<A: Allocator + Copy>(alloc: A, bytes: &[u8]) -> Result<TimeZone<A>, Error> {
     match TimeZone::from_tz_data(alloc, bytes) {
         Ok(zone) => Ok(zone),
@@ -49,8 +89,8 @@ fn zone_of_found<A: Allocator + Copy>(
 
 /// How a time zone is found: the directories of files, and the function that reads one.
 ///
-/// The function returns the bytes of the file at a path. It is called with each path in turn until it returns bytes or
-/// `ReadFault::Memory`.
+/// The function returns the bytes of the file at a path. It is called with each path in turn until
+/// it returns bytes or `ReadFault::Memory`.
 pub struct TimeZoneSettings<'a, F> {
     pub(super) directories: &'a [&'a str],
     pub(super) reader: F,
@@ -71,25 +111,28 @@ impl<'a, F: Fn(&str) -> Result<Vec<u8>, ReadFault>> TimeZoneSettings<'a, F> {
     ///
     /// - [`Error::Io`] with the reader's error if that file cannot be read;
     /// - [`Error::Tz`] with an error of [`TimeZone::from_tz_data`] if the file is not a TZif file;
-    /// - [`Error::Tz`] of [`TzError::Memory`] if an allocation fails, in this call or in the reader.
-    #[inline(never)]
+    /// - [`Error::Tz`] of [`TzError::Memory`] if an allocation fails, in this call or in the
+    ///   reader.
     pub fn parse_local<A: Allocator + Copy>(&self, alloc: A) -> Result<TimeZone<A>, Error> {
         zone_of_found(alloc, self.read(LOCAL_TIME_FILE))
     }
 
     /// The time zone of a string. (POSIX.1-2017, Base Definitions, 8.3)
     ///
-    /// `localtime` is the machine's local time. What follows a `:` names a file. Any other string names a file too, or is a TZ string if no such file
-    /// can be read. A name that begins with `/` is the path of the file, and any other name is that of a file in one of the directories.
+    /// `localtime` is the machine's local time. What follows a `:` names a file. Any other string
+    /// names a file too, or is a TZ string if no such file can be read. A name that begins with `/`
+    /// is the path of the file, and any other name is that of a file in one of the directories.
     ///
     /// # Errors
     ///
     /// - [`Error::Tz`] of [`TzError::TzString`] with `Empty` if the string is empty;
     /// - [`Error::Io`] if the file of `localtime` or of a name after `:` cannot be read;
-    /// - [`Error::Tz`] of [`TzError::TzString`], [`TzError::LocalTimeType`] or [`TzError::TransitionRule`] if any other string names no file that can
-    ///   be read, and is not a TZ string or does not make a rule;
+    /// - [`Error::Tz`] of [`TzError::TzString`], [`TzError::LocalTimeType`] or
+    ///   [`TzError::TransitionRule`] if any other string names no file that can be read, and is not
+    ///   a TZ string or does not make a rule;
     /// - [`Error::Tz`] with an error of [`TimeZone::from_tz_data`] if the file is not a TZif file;
-    /// - [`Error::Tz`] of [`TzError::Memory`] if an allocation fails, in this call or in the reader.
+    /// - [`Error::Tz`] of [`TzError::Memory`] if an allocation fails, in this call or in the
+    ///   reader.
     pub fn parse_posix_tz<A: Allocator + Copy>(
         &self,
         alloc: A,
@@ -108,7 +151,6 @@ impl<'a, F: Fn(&str) -> Result<Vec<u8>, ReadFault>> TimeZoneSettings<'a, F> {
     }
 
     /// The zone of the file with the name.
-    #[inline(never)]
     fn parse_name<A: Allocator + Copy>(&self, alloc: A, name: &str) -> Result<TimeZone<A>, Error> {
         zone_of_found(alloc, self.find(alloc, name))
     }
@@ -144,7 +186,8 @@ impl<'a, F: Fn(&str) -> Result<Vec<u8>, ReadFault>> TimeZoneSettings<'a, F> {
 }
 
 impl<A: Allocator + Copy> TimeZone<A> {
-    /// The machine's local time zone: that of the TZif file at `/etc/localtime`, whose bytes the reader returns for this path.
+    /// The machine's local time zone: that of the TZif file at `/etc/localtime`, whose bytes the
+    /// reader returns for this path.
     ///
     /// With the reader of the machine's files:
     ///
@@ -165,16 +208,22 @@ impl<A: Allocator + Copy> TimeZone<A> {
         settings.parse_local(alloc)
     }
 
-    /// The time zone of a string, with the [usual directories](DEFAULT_DIRECTORIES) and this function that reads a file. (POSIX.1-2017, Base
-    /// Definitions, 8.3)
+    /// The time zone of a string, with the [usual directories](DEFAULT_DIRECTORIES) and this
+    /// function that reads a file. (POSIX.1-2017, Base Definitions, 8.3)
     ///
-    /// `localtime` is the machine's local time. What follows a `:` names a file. Any other string names a file too, or is a TZ string if no such file
-    /// can be read. A name that begins with `/` is the path of the file, and any other name is that of a file in one of the directories.
+    /// `localtime` is the machine's local time. What follows a `:` names a file. Any other string
+    /// names a file too, or is a TZ string if no such file can be read. A name that begins with `/`
+    /// is the path of the file, and any other name is that of a file in one of the directories.
     ///
-    /// The zone of a name such as `Europe/Paris`, or of a TZ string such as `CET-1CEST,M3.5.0,M10.5.0/3`:
+    /// The zone of a name such as `Europe/Paris`, or of a TZ string such as
+    /// `CET-1CEST,M3.5.0,M10.5.0/3`:
     ///
     /// ```text
-    /// pub fn zone_of_setting<R: Files>(rt: &R, alloc: Global, setting: &str) -> Result<TimeZone, Error> {
+    /// pub fn zone_of_setting<R: Files>(
+    ///     rt: &R,
+    ///     alloc: Global,
+    ///     setting: &str,
+    /// ) -> Result<TimeZone, Error> {
     ///     let reader = |path: &str| timezone::read_file(rt, alloc, path);
     ///     TimeZone::from_posix_tz(alloc, reader, setting)
     /// }
@@ -192,12 +241,15 @@ impl<A: Allocator + Copy> TimeZone<A> {
         settings.parse_posix_tz(alloc, tz_string)
     }
 
-    /// The time zone with the name, such as `Europe/Paris`, in the database of the system. (tz database, Timezone identifiers)
+    /// The time zone with the name, such as `Europe/Paris`, in the database of the system. (tz
+    /// database, Timezone identifiers)
     ///
-    /// A name has parts of ASCII letters, digits, `.`, `_`, `+` and `-`, with `/` between them; no part is `.` or `..`. For a name the reader is
-    /// asked in each of the [usual directories](DEFAULT_DIRECTORIES) in turn until it returns bytes or `ReadFault::Memory`, and for any other text it
-    /// is not asked. So no path outside of these directories is opened, even if a user chooses the
-    /// name; a link in them is followed, wherever it leads. A name is never read as a TZ string.
+    /// A name has parts of ASCII letters, digits, `.`, `_`, `+` and `-`, with `/` between them; no
+    /// part is `.` or `..`. For a name the reader is asked in each of the [usual
+    /// directories](DEFAULT_DIRECTORIES) in turn until it returns bytes or `ReadFault::Memory`, and
+    /// for any other text it is not asked. So no path outside of these directories is opened, even
+    /// if a user chooses the name; a link in them is followed, wherever it leads. A name is never
+    /// read as a TZ string.
     ///
     /// A file that the reader does not return counts as one that is not there, also if it may not
     /// be read, or is longer than the reader's limit.
@@ -208,7 +260,8 @@ impl<A: Allocator + Copy> TimeZone<A> {
     ///   or if it is one and no directory has a file with it; the error's text says which, and has
     ///   the name;
     /// - [`Error::Tz`] with an error of [`TimeZone::from_tz_data`] if the file is not a TZif file;
-    /// - [`Error::Tz`] of [`TzError::Memory`] if an allocation fails, in this call or in the reader.
+    /// - [`Error::Tz`] of [`TzError::Memory`] if an allocation fails, in this call or in the
+    ///   reader.
     pub fn named<F: Fn(&str) -> Result<Vec<u8>, ReadFault>>(
         alloc: A,
         reader: F,

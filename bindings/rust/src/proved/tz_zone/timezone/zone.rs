@@ -1,11 +1,10 @@
 // Generated from crates/tz_zone/src/timezone/zone.rt by bindings/erase: its contracts are cut. Change that file instead.
 //! Time zones that own their parts.
 
-use super::offset_range::offset_range;
-use super::zone_checks::check_read_parts;
+use super::zone_checks::{check_parts, offset_range};
+use super::zone_data::lent;
 use super::{LeapSecond, LocalTimeType, TimeZoneRef, Transition, TransitionRule};
 use crate::proved::tz_base::error::TzError;
-use crate::proved::tz_zone::table::lent;
 use crate::shim::Vec;
 use crate::shim::alloc::{Allocator, Global};
 use core::fmt;
@@ -46,46 +45,31 @@ impl<A: Allocator + Copy> TimeZone<A> {
     /// The first of these:
     ///
     /// - [`TzError::TimeZone`] with `NoLocalTimeType` if there is no local time type;
-    /// - [`TzError::TimeZone`] for the first transition that names no type (`InvalidLocalTimeTypeIndex`), or that names one and is not before the
-    ///   next transition (`InvalidTransition`);
-    /// - [`TzError::TimeZone`] with `InvalidLeapSecond` if the first leap second is before 0, or if another one is less than 28 days less a second
-    ///   after the one before it, or does not change the correction by one second; the last record may instead repeat the correction, at any later
-    ///   time, at which the table expires;
-    /// - [`TzError::OutOfRange`] if the last transition takes effect at no instant, or the rule has no type at that instant;
-    /// - [`TzError::TimeZone`] with `InconsistentExtraRule` if the rule's type there is not that of the transition.
+    /// - [`TzError::TimeZone`] for the first transition that names no type
+    ///   (`InvalidLocalTimeTypeIndex`), or that names one and is not before the next transition
+    ///   (`InvalidTransition`);
+    /// - [`TzError::TimeZone`] with `InvalidLeapSecond` if the first leap second is before 0, or if
+    ///   another one is less than 28 days less a second after the one before it, or does not change
+    ///   the correction by one second; the last record may instead repeat the correction, at any
+    ///   later time, at which the table expires;
+    /// - [`TzError::OutOfRange`] if the last transition takes effect at no instant, or the rule has
+    ///   no type at that instant;
+    /// - [`TzError::TimeZone`] with `InconsistentExtraRule` if the rule's type there is not that of
+    ///   the transition.
     ///
-    /// The last two are checked only if there are a rule and a transition, and the last transition is not before the leap-second table begins. On an
-    /// error the lists are dropped.
+    /// The last two are checked only if there are a rule and a transition, and the last transition
+    /// is not before the leap-second table begins. On an error the lists are dropped.
     pub fn new(
         transitions: Vec<Transition, A>,
         local_time_types: Vec<LocalTimeType, A>,
         leap_seconds: Vec<LeapSecond, A>,
         extra_rule: Option<TransitionRule>,
     ) -> Result<Self, TzError> {
-        TimeZone::from_read_parts(
-            transitions,
-            local_time_types,
-            leap_seconds,
-            extra_rule,
-            false,
-        )
-    }
-
-    /// The zone with these parts. With `are_in_order` the caller knows that the transitions come in order, and that each names a type.
-    #[inline(always)]
-    pub(crate) fn from_read_parts(
-        transitions: Vec<Transition, A>,
-        local_time_types: Vec<LocalTimeType, A>,
-        leap_seconds: Vec<LeapSecond, A>,
-        extra_rule: Option<TransitionRule>,
-        are_in_order: bool,
-    ) -> Result<Self, TzError> {
-        check_read_parts(
+        check_parts(
             &transitions,
             &local_time_types,
             &leap_seconds,
             lent(&extra_rule),
-            are_in_order,
         )?;
         let (least_offset, greatest_offset) = offset_range(&local_time_types, lent(&extra_rule));
         Ok(TimeZone {
@@ -111,7 +95,8 @@ impl<A: Allocator + Copy> TimeZone<A> {
     ///
     /// # Errors
     ///
-    /// - [`TzError::LocalTimeType`] with `InvalidUtcOffset` if the offset is `i32::MIN`, which is checked before anything is allocated;
+    /// - [`TzError::LocalTimeType`] with `InvalidUtcOffset` if the offset is `i32::MIN`, which is
+    ///   checked before anything is allocated;
     /// - [`TzError::Memory`] if an allocation fails.
     pub fn fixed(alloc: A, ut_offset: i32) -> Result<Self, TzError> {
         let local_time_type = LocalTimeType::with_ut_offset(ut_offset)?;
@@ -165,15 +150,19 @@ impl<A: Allocator + Copy> TimeZone<A> {
 
     /// The clock's type at an instant, in Unix seconds. (RFC 8536, section 3.2)
     ///
-    /// Before the first transition it is type number 0, from there up to the last one it is the type of the last transition that has been reached,
-    /// and from the last one on that of the extra rule. A zone without transitions has the type of its rule, or type number 0 if it has no rule.
+    /// Before the first transition it is type number 0, from there up to the last one it is the
+    /// type of the last transition that has been reached, and from the last one on that of the
+    /// extra rule. A zone without transitions has the type of its rule, or type number 0 if it has
+    /// no rule.
     ///
     /// # Errors
     ///
-    /// - [`TzError::NoAvailableLocalTimeType`] if the last transition has taken effect and there is no rule;
-    /// - [`TzError::OutOfRange`] if the rule is needed and is not defined in that year: an alternate rule is defined from the year `i32::MIN + 2` to
-    ///   `i32::MAX - 2` in UTC; or if the zone has transitions and the instant has no leap time, because it is before a leap-second table that begins
-    ///   late, or because the leap time does not fit an `i64`.
+    /// - [`TzError::NoAvailableLocalTimeType`] if the last transition has taken effect and there is
+    ///   no rule;
+    /// - [`TzError::OutOfRange`] if the rule is needed and is not defined in that year: an
+    ///   alternate rule is defined from the year `i32::MIN + 2` to `i32::MAX - 2` in UTC; or if the
+    ///   zone has transitions and the instant has no leap time, because it is before a leap-second
+    ///   table that begins late, or because the leap time does not fit an `i64`.
     pub fn find_local_time_type(&self, unix_time: i64) -> Result<&LocalTimeType, TzError> {
         self.as_ref().find_local_time_type(unix_time)
     }

@@ -1,24 +1,25 @@
 // Generated from crates/tz_zone/src/timezone/zone_checks.rt by bindings/erase: its contracts are cut. Change that file instead.
-//! The checks of a zone: transitions in order and to types of the zone, its table of leap seconds, and a rule that agrees with the last transition.
+//! The checks of a zone: transitions in order and to types of the zone, its table of leap seconds,
+//! and a rule that agrees with the last transition.
 
 use super::{LeapSecond, LocalTimeType, Transition};
 use crate::proved::tz_base::error::TzError;
 use crate::proved::tz_base::error::timezone::TimeZoneError;
 use crate::proved::tz_rule::inner::RuleRef;
-use crate::proved::tz_zone::leap::from_leap_time::effect;
+use crate::proved::tz_zone::leap::leap_time::effect;
 use crate::proved::tz_zone::leap::table::{are_leap_seconds, has_begun_at};
 
-/// Whether the type index of the transition at a place is below `types`, the number of types.
-const fn has_type_at(transitions: &[Transition], types: usize, place: usize) -> bool {
-    transitions[place].local_time_type_index() < types
+/// Whether the type index of the transition at an index is below `types`, the number of types.
+const fn has_type_at(transitions: &[Transition], types: usize, index: usize) -> bool {
+    transitions[index].local_time_type_index() < types
 }
 
-/// Whether the transition at a place comes before the next one.
-const fn rises_at(transitions: &[Transition], place: usize) -> bool {
-    if place + 1 == transitions.len() {
+/// Whether the transition at an index comes before the next one.
+const fn rises_at(transitions: &[Transition], index: usize) -> bool {
+    if index + 1 == transitions.len() {
         return true;
     }
-    transitions[place].unix_leap_time() < transitions[place + 1].unix_leap_time()
+    transitions[index].unix_leap_time() < transitions[index + 1].unix_leap_time()
 }
 
 /// Each transition names one of the types, whose number is given, and comes before the next one.
@@ -36,19 +37,6 @@ const fn check_transitions(transitions: &[Transition], types: usize) -> Result<(
     Ok(())
 }
 
-/// Checks the transitions, unless they are known to come in order, and each to name a type.
-#[inline(always)]
-const fn check_unknown_transitions(
-    transitions: &[Transition],
-    types: usize,
-    are_in_order: bool,
-) -> Result<(), TimeZoneError> {
-    if are_in_order {
-        return Ok(());
-    }
-    check_transitions(transitions, types)
-}
-
 /// The type that a rule has where a leap time takes effect.
 const fn rule_type_at<'a>(
     rule: RuleRef<'a>,
@@ -61,7 +49,8 @@ const fn rule_type_at<'a>(
     }
 }
 
-/// The extra rule has a type at the last transition, which is that transition's, unless the transition is before a truncated start.
+/// The extra rule has a type at the last transition, which is that transition's, unless the
+/// transition is before a truncated start.
 const fn check_extra_rule(
     transitions: &[Transition],
     local_time_types: &[LocalTimeType],
@@ -95,33 +84,62 @@ pub(crate) const fn check_parts(
     leap_seconds: &[LeapSecond],
     extra_rule: Option<RuleRef<'_>>,
 ) -> Result<(), TzError> {
-    check_read_parts(
-        transitions,
-        local_time_types,
-        leap_seconds,
-        extra_rule,
-        false,
-    )
-}
-
-/// Checks the parts of a zone, in the order of their errors, but not transitions that are known to come in order, and each to name a type.
-#[inline(always)]
-pub(crate) const fn check_read_parts(
-    transitions: &[Transition],
-    local_time_types: &[LocalTimeType],
-    leap_seconds: &[LeapSecond],
-    extra_rule: Option<RuleRef<'_>>,
-    are_in_order: bool,
-) -> Result<(), TzError> {
     if local_time_types.is_empty() {
         return Err(TzError::TimeZone(TimeZoneError::NoLocalTimeType));
     }
-    if let Err(error) = check_unknown_transitions(transitions, local_time_types.len(), are_in_order)
-    {
+    if let Err(error) = check_transitions(transitions, local_time_types.len()) {
         return Err(TzError::TimeZone(error));
     }
     if !are_leap_seconds(leap_seconds) {
         return Err(TzError::TimeZone(TimeZoneError::InvalidLeapSecond));
     }
     check_extra_rule(transitions, local_time_types, leap_seconds, extra_rule)
+}
+
+/// The range of offsets from `least` to `greatest`, widened just enough to have another one.
+#[inline(always)]
+const fn with_offset(least: i32, greatest: i32, offset: i32) -> (i32, i32) {
+    (
+        crate::shim::least!(least, offset),
+        crate::shim::greatest!(greatest, offset),
+    )
+}
+
+/// The least and the greatest offset of the types.
+const fn offsets_of_types(local_time_types: &[LocalTimeType]) -> (i32, i32) {
+    let first = local_time_types[0].ut_offset();
+    let (mut least, mut greatest) = (first, first);
+    let mut index = 0;
+    while index < local_time_types.len() {
+        let ends = with_offset(least, greatest, local_time_types[index].ut_offset());
+        least = ends.0;
+        greatest = ends.1;
+        index += 1;
+    }
+    (least, greatest)
+}
+
+/// Two offsets, moved apart until those of the rule lie between them, and no further.
+const fn with_rule(rule: RuleRef<'_>, least: i32, greatest: i32) -> (i32, i32) {
+    match rule {
+        RuleRef::Fixed(local_time_type) => {
+            with_offset(least, greatest, local_time_type.ut_offset())
+        }
+        RuleRef::Alternate(rule) => {
+            let with_std = with_offset(least, greatest, rule.std().ut_offset());
+            with_offset(with_std.0, with_std.1, rule.dst().ut_offset())
+        }
+    }
+}
+
+/// The least and the greatest offset of the types and of the rule.
+pub(super) const fn offset_range(
+    local_time_types: &[LocalTimeType],
+    extra_rule: Option<RuleRef<'_>>,
+) -> (i32, i32) {
+    let (least, greatest) = offsets_of_types(local_time_types);
+    match extra_rule {
+        Some(rule) => with_rule(rule, least, greatest),
+        None => (least, greatest),
+    }
 }

@@ -1,29 +1,45 @@
 // Generated from crates/tz_zone/src/timezone/zone_data.rt by bindings/erase: its contracts are cut. Change that file instead.
-//! Zones as plain data, in tables that another language may own.
+//! Zones as plain data, whose tables and rule another owner has.
 
-use super::offset_range::offset_range;
-use super::zone_checks::check_parts;
-use super::{Change, LeapSecond, LocalTimeType, Segment, TimeZoneRef, Transition, TransitionRule};
+use super::zone_checks::{check_parts, offset_range};
+use super::{Change, LeapSecond, LocalTimeType, Segment, Transition, TransitionRule};
 use crate::proved::tz_base::error::TzError;
 use crate::proved::tz_rule::inner::{AlternateData, RuleRef};
 use crate::proved::tz_zone::clock::{self, find_following, find_preceding};
-use crate::proved::tz_zone::table::{KeptRule, OtherParts, Uncounted, lent};
-use core::slice::from_ref;
+use crate::proved::tz_zone::table::Uncounted;
 
-/// A time zone as slices of plain data, in C's layout. Its rule is the first fixed type, or else the first alternate rule.
-#[repr(C)]
+/// The rule of a zone as its owner keeps it. It is lent where the rule is needed, so that lending a
+/// zone tests nothing of it.
 #[derive(Clone, Copy)]
-pub struct ZoneData<'a> {
-    pub transitions: &'a [Transition],
-    pub local_time_types: &'a [LocalTimeType],
-    pub leap_seconds: &'a [LeapSecond],
-    pub fixed: &'a [LocalTimeType],
-    pub alternate: &'a [AlternateData],
-    pub least_offset: i32,
-    pub greatest_offset: i32,
+pub enum RuleSource<'a> {
+    /// A rule, or none.
+    Whole(&'a Option<TransitionRule>),
+    /// The first fixed type, or else the first alternate rule.
+    Listed(&'a [LocalTimeType], &'a [AlternateData]),
 }
 
-/// The rule that two lists give: the first type of the one, or else the first alternate rule of the other.
+/// A time zone as slices of plain data, and its rule.
+#[derive(Clone, Copy)]
+pub struct ZoneData<'a> {
+    pub(crate) transitions: &'a [Transition],
+    pub(crate) local_time_types: &'a [LocalTimeType],
+    pub(crate) leap_seconds: &'a [LeapSecond],
+    rule: RuleSource<'a>,
+    least_offset: i32,
+    greatest_offset: i32,
+}
+
+/// Lends a rule, if there is one.
+#[inline(always)]
+pub(super) const fn lent(extra_rule: &Option<TransitionRule>) -> Option<RuleRef<'_>> {
+    match extra_rule {
+        Some(rule) => Some(RuleRef::of(rule)),
+        None => None,
+    }
+}
+
+/// The rule that two lists give: the first type of the one, or else the first alternate rule of the
+/// other.
 #[inline(always)]
 const fn rule_of<'a>(
     fixed: &'a [LocalTimeType],
@@ -38,15 +54,14 @@ const fn rule_of<'a>(
     }
 }
 
-/// The two lists that give a rule.
-#[inline(always)]
-const fn lists_of<'a>(
-    rule: &'a Option<TransitionRule>,
-) -> (&'a [LocalTimeType], &'a [AlternateData]) {
-    match lent(rule) {
-        None => (&[], &[]),
-        Some(RuleRef::Fixed(local_time_type)) => (from_ref(local_time_type), &[]),
-        Some(RuleRef::Alternate(rule)) => (&[], from_ref(rule)),
+impl<'a> RuleSource<'a> {
+    /// Lends the rule, if there is one.
+    #[inline(always)]
+    const fn lent(self) -> Option<RuleRef<'a>> {
+        match self {
+            RuleSource::Whole(extra_rule) => lent(extra_rule),
+            RuleSource::Listed(fixed, alternate) => rule_of(fixed, alternate),
+        }
     }
 }
 
@@ -56,37 +71,39 @@ impl<'a> ZoneData<'a> {
         transitions: &'a [Transition],
         local_time_types: &'a [LocalTimeType],
         leap_seconds: &'a [LeapSecond],
-        fixed: &'a [LocalTimeType],
-        alternate: &'a [AlternateData],
+        rule: RuleSource<'a>,
     ) -> Result<Self, TzError> {
-        let rule = rule_of(fixed, alternate);
-        match check_parts(transitions, local_time_types, leap_seconds, rule) {
+        let lent = rule.lent();
+        match check_parts(transitions, local_time_types, leap_seconds, lent) {
             Ok(value) => value,
             Err(error) => return Err(error),
         };
-        let (least_offset, greatest_offset) = offset_range(local_time_types, rule);
+        let (least_offset, greatest_offset) = offset_range(local_time_types, lent);
         Ok(ZoneData {
             transitions,
             local_time_types,
             leap_seconds,
-            fixed,
-            alternate,
+            rule,
             least_offset,
             greatest_offset,
         })
     }
 
-    /// The data of a borrowed zone.
+    /// The zone with parts that are known to make one, and with its least and its greatest offset.
     #[inline(always)]
-    pub const fn of(zone: TimeZoneRef<'a>) -> Self {
-        let (fixed, alternate) = lists_of(zone.extra_rule());
-        let (least_offset, greatest_offset) = zone.offsets();
+    pub const fn from_valid_parts(
+        transitions: &'a [Transition],
+        local_time_types: &'a [LocalTimeType],
+        leap_seconds: &'a [LeapSecond],
+        rule: RuleSource<'a>,
+        least_offset: i32,
+        greatest_offset: i32,
+    ) -> Self {
         ZoneData {
-            transitions: zone.transitions(),
-            local_time_types: zone.local_time_types(),
-            leap_seconds: zone.leap_seconds(),
-            fixed,
-            alternate,
+            transitions,
+            local_time_types,
+            leap_seconds,
+            rule,
             least_offset,
             greatest_offset,
         }
@@ -98,14 +115,22 @@ impl<'a> ZoneData<'a> {
         self.transitions
     }
 
-    /// What the zone has beside its transitions.
+    /// The local time types, which the transitions name by their numbers.
     #[inline(always)]
-    pub const fn other_parts(&self) -> OtherParts<'a> {
-        OtherParts {
-            local_time_types: self.local_time_types,
-            leap_seconds: self.leap_seconds,
-            extra_rule: KeptRule::of(rule_of(self.fixed, self.alternate)),
-        }
+    pub const fn local_time_types(&self) -> &'a [LocalTimeType] {
+        self.local_time_types
+    }
+
+    /// The leap seconds, in order.
+    #[inline(always)]
+    pub const fn leap_seconds(&self) -> &'a [LeapSecond] {
+        self.leap_seconds
+    }
+
+    /// The rule from the last transition on, lent.
+    #[inline(always)]
+    pub const fn rule(&self) -> Option<RuleRef<'a>> {
+        self.rule.lent()
     }
 
     /// The least and the greatest offset of the types and of the rule.
@@ -118,24 +143,30 @@ impl<'a> ZoneData<'a> {
     #[inline(always)]
     pub const fn find_local_time_type(&self, unix_time: i64) -> Result<&'a LocalTimeType, TzError> {
         let mut view = Uncounted::new(self.transitions);
-        clock::find_local_time_type(&mut view, self.other_parts(), unix_time)
+        clock::find_local_time_type(&mut view, self, unix_time)
     }
 
     /// The segment around an instant, as `TimeZoneRef::segment_at` answers it.
     pub const fn segment_at(&self, unix_time: i64) -> Segment<'a> {
         let mut view = Uncounted::new(self.transitions);
-        clock::clock_segment_at(&mut view, self.other_parts(), unix_time)
+        clock::clock_segment_at(&mut view, self, unix_time)
     }
 
     /// The first change after an instant, as `TimeZoneRef::following` answers it.
-    pub fn following(&self, unix_time: i64) -> Option<Change<'a>> {
-        let (change, _) = find_following(self.transitions, self.other_parts(), unix_time, None)?;
+    pub const fn following(&self, unix_time: i64) -> Option<Change<'a>> {
+        let (change, _) = match find_following(self, unix_time) {
+            Some(value) => value,
+            None => return None,
+        };
         Some(change)
     }
 
     /// The last change before an instant, as `TimeZoneRef::preceding` answers it.
-    pub fn preceding(&self, unix_time: i64) -> Option<Change<'a>> {
-        let (change, _) = find_preceding(self.transitions, self.other_parts(), unix_time, None)?;
+    pub const fn preceding(&self, unix_time: i64) -> Option<Change<'a>> {
+        let (change, _) = match find_preceding(self, unix_time) {
+            Some(value) => value,
+            None => return None,
+        };
         Some(change)
     }
 }

@@ -1,33 +1,30 @@
 // Generated from crates/tz_zone/src/timezone/zone_ref.rt by bindings/erase: its contracts are cut. Change that file instead.
 //! Borrowed time zones.
 
-use super::offset_range::offset_range;
-use super::zone_checks::check_parts;
+use super::zone_data::{RuleSource, ZoneData};
 use super::{LeapSecond, LocalTimeType, Transition, TransitionRule};
-use crate::proved::tz_base::error::TzError;
 use crate::proved::tz_zone::clock;
 use crate::proved::tz_zone::leap::table::expiry;
-use crate::proved::tz_zone::table::{Uncounted, lent, other_parts_of};
+
+use crate::proved::tz_base::error::TzError;
 use core::fmt;
 
 /// A borrowed time zone.
 ///
-/// Before the last transition, the transitions determine its clock; from there on the extra rule does.
+/// Before the last transition, the transitions determine its clock; from there on the extra rule
+/// does.
 #[derive(Clone, Copy)]
 pub struct TimeZoneRef<'a> {
-    pub(super) transitions: &'a [Transition],
-    local_time_types: &'a [LocalTimeType],
-    leap_seconds: &'a [LeapSecond],
+    pub(super) plain: ZoneData<'a>,
+    // The rule that `plain` keeps, as `extra_rule` returns it.
     extra_rule: &'a Option<TransitionRule>,
-    least_offset: i32,
-    greatest_offset: i32,
 }
 
 impl<'a> PartialEq for TimeZoneRef<'a> {
     fn eq(&self, other: &TimeZoneRef<'a>) -> bool {
-        self.transitions == other.transitions
-            && self.local_time_types == other.local_time_types
-            && self.leap_seconds == other.leap_seconds
+        self.plain.transitions == other.plain.transitions
+            && self.plain.local_time_types == other.plain.local_time_types
+            && self.plain.leap_seconds == other.plain.leap_seconds
             && self.extra_rule == other.extra_rule
     }
 }
@@ -37,7 +34,8 @@ impl<'a> Eq for TimeZoneRef<'a> {}
 impl<'a> TimeZoneRef<'a> {
     /// The zone with these parts. (RFC 8536, section 3.2)
     ///
-    /// A zone from parts, without allocating: clocks were an hour ahead of UTC until the year 2000, and are two hours ahead from then on.
+    /// A zone from parts, without allocating: clocks were an hour ahead of UTC until the year 2000,
+    /// and are two hours ahead from then on.
     ///
     /// ```
     /// # use std::time::Duration;
@@ -58,39 +56,36 @@ impl<'a> TimeZoneRef<'a> {
     /// The first of these:
     ///
     /// - [`TzError::TimeZone`] with `NoLocalTimeType` if there is no local time type;
-    /// - [`TzError::TimeZone`] for the first transition that names no type (`InvalidLocalTimeTypeIndex`), or that names one and is not before the
-    ///   next transition (`InvalidTransition`);
-    /// - [`TzError::TimeZone`] with `InvalidLeapSecond` if the first leap second is before 0, or if another one is less than 28 days less a second
-    ///   after the one before it, or does not change the correction by one second; the last record may instead repeat the correction, at any later
-    ///   time, at which the table expires;
-    /// - [`TzError::OutOfRange`] if the last transition takes effect at no instant, or the rule has no type at that instant;
-    /// - [`TzError::TimeZone`] with `InconsistentExtraRule` if the rule's type there is not that of the transition.
+    /// - [`TzError::TimeZone`] for the first transition that names no type
+    ///   (`InvalidLocalTimeTypeIndex`), or that names one and is not before the next transition
+    ///   (`InvalidTransition`);
+    /// - [`TzError::TimeZone`] with `InvalidLeapSecond` if the first leap second is before 0, or if
+    ///   another one is less than 28 days less a second after the one before it, or does not change
+    ///   the correction by one second; the last record may instead repeat the correction, at any
+    ///   later time, at which the table expires;
+    /// - [`TzError::OutOfRange`] if the last transition takes effect at no instant, or the rule has
+    ///   no type at that instant;
+    /// - [`TzError::TimeZone`] with `InconsistentExtraRule` if the rule's type there is not that of
+    ///   the transition.
     ///
-    /// The last two are checked only if there are a rule and a transition, and the last transition is not before the leap-second table begins.
+    /// The last two are checked only if there are a rule and a transition, and the last transition
+    /// is not before the leap-second table begins.
     pub const fn new(
         transitions: &'a [Transition],
         local_time_types: &'a [LocalTimeType],
         leap_seconds: &'a [LeapSecond],
         extra_rule: &'a Option<TransitionRule>,
     ) -> Result<Self, TzError> {
-        let rule = lent(extra_rule);
-        match check_parts(transitions, local_time_types, leap_seconds, rule) {
+        let rule = RuleSource::Whole(extra_rule);
+        let plain = match ZoneData::new(transitions, local_time_types, leap_seconds, rule) {
             Ok(value) => value,
             Err(error) => return Err(error),
         };
-        let (least_offset, greatest_offset) = offset_range(local_time_types, rule);
-        Ok(TimeZoneRef {
-            transitions,
-            local_time_types,
-            leap_seconds,
-            extra_rule,
-            least_offset,
-            greatest_offset,
-        })
+        Ok(TimeZoneRef { plain, extra_rule })
     }
 
     /// The zone with parts that are known to make one, and with its least and its greatest offset.
-    pub(crate) fn from_valid_parts(
+    pub(crate) const fn from_valid_parts(
         transitions: &'a [Transition],
         local_time_types: &'a [LocalTimeType],
         leap_seconds: &'a [LeapSecond],
@@ -98,47 +93,48 @@ impl<'a> TimeZoneRef<'a> {
         least_offset: i32,
         greatest_offset: i32,
     ) -> Self {
-        TimeZoneRef {
+        let plain = ZoneData::from_valid_parts(
             transitions,
             local_time_types,
             leap_seconds,
-            extra_rule,
+            RuleSource::Whole(extra_rule),
             least_offset,
             greatest_offset,
-        }
+        );
+        TimeZoneRef { plain, extra_rule }
     }
 
     /// The zone of UTC. Does not allocate.
     pub const fn utc() -> TimeZoneRef<'static> {
-        TimeZoneRef {
-            transitions: &[],
-            local_time_types: crate::proved::tz_rule::inner::utc_types(),
-            leap_seconds: &[],
-            extra_rule: crate::proved::tz_rule::inner::no_rule(),
-            least_offset: 0,
-            greatest_offset: 0,
-        }
+        TimeZoneRef::from_valid_parts(
+            &[],
+            crate::proved::tz_rule::inner::utc_types(),
+            &[],
+            crate::proved::tz_rule::inner::no_rule(),
+            0,
+            0,
+        )
     }
 
     /// The transitions, in order.
     pub const fn transitions(&self) -> &'a [Transition] {
-        self.transitions
+        self.plain.transitions
     }
 
     /// The local time types, which the transitions name by their numbers.
     pub const fn local_time_types(&self) -> &'a [LocalTimeType] {
-        self.local_time_types
+        self.plain.local_time_types
     }
 
     /// The leap seconds, in order.
     pub const fn leap_seconds(&self) -> &'a [LeapSecond] {
-        self.leap_seconds
+        self.plain.leap_seconds
     }
 
-    /// The leap time at which the leap-second table expires: that of a last record that repeats the correction before it. `None` if there is no such
-    /// record.
+    /// The leap time at which the leap-second table expires: that of a last record that repeats the
+    /// correction before it. `None` if there is no such record.
     pub fn leap_expiry(&self) -> Option<i64> {
-        expiry(self.leap_seconds)
+        expiry(self.plain.leap_seconds)
     }
 
     /// The rule from the last transition on.
@@ -148,24 +144,22 @@ impl<'a> TimeZoneRef<'a> {
 
     /// The clock's type at an instant, in Unix seconds. (RFC 8536, section 3.2)
     ///
-    /// Before the first transition it is type number 0, from there up to the last one it is the type of the last transition that has been reached,
-    /// and from the last one on that of the extra rule. A zone without transitions has the type of its rule, or type number 0 if it has no rule.
+    /// Before the first transition it is type number 0, from there up to the last one it is the
+    /// type of the last transition that has been reached, and from the last one on that of the
+    /// extra rule. A zone without transitions has the type of its rule, or type number 0 if it has
+    /// no rule.
     ///
     /// # Errors
     ///
-    /// - [`TzError::NoAvailableLocalTimeType`] if the last transition has taken effect and there is no rule;
-    /// - [`TzError::OutOfRange`] if the rule is needed and is not defined in that year: an alternate rule is defined from the year `i32::MIN + 2` to
-    ///   `i32::MAX - 2` in UTC; or if the zone has transitions and the instant has no leap time, because it is before a leap-second table that begins
-    ///   late, or because the leap time does not fit an `i64`.
+    /// - [`TzError::NoAvailableLocalTimeType`] if the last transition has taken effect and there is
+    ///   no rule;
+    /// - [`TzError::OutOfRange`] if the rule is needed and is not defined in that year: an
+    ///   alternate rule is defined from the year `i32::MIN + 2` to `i32::MAX - 2` in UTC; or if the
+    ///   zone has transitions and the instant has no leap time, because it is before a leap-second
+    ///   table that begins late, or because the leap time does not fit an `i64`.
     #[inline(always)]
     pub const fn find_local_time_type(&self, unix_time: i64) -> Result<&'a LocalTimeType, TzError> {
-        let mut view = Uncounted::new(self.transitions);
-        clock::find_local_time_type(&mut view, other_parts_of(self), unix_time)
-    }
-
-    /// The least and the greatest offset of the types and of the rule.
-    pub(crate) const fn offsets(&self) -> (i32, i32) {
-        (self.least_offset, self.greatest_offset)
+        self.plain.find_local_time_type(unix_time)
     }
 }
 
@@ -173,9 +167,9 @@ impl<'a> TimeZoneRef<'a> {
 impl fmt::Debug for TimeZoneRef<'_> {
     fn fmt(&self, f: &mut fmt::Formatter<'_>) -> fmt::Result {
         f.debug_struct("TimeZoneRef")
-            .field("transitions", &self.transitions)
-            .field("local_time_types", &self.local_time_types)
-            .field("leap_seconds", &self.leap_seconds)
+            .field("transitions", &self.plain.transitions)
+            .field("local_time_types", &self.plain.local_time_types)
+            .field("leap_seconds", &self.plain.leap_seconds)
             .field("extra_rule", &self.extra_rule)
             .finish()
     }

@@ -1,18 +1,22 @@
 // Generated from crates/tz_query/src/query/output.rt by bindings/erase: its contracts are cut. Change that file instead.
-//! Where answers are written.
+//! Answers on their way out: a page of them, and the streams.
 
-use super::nanoseconds::Nanoseconds;
-use super::page::Page;
-use super::type_suffixes::Suffix;
+use super::answers::Suffix;
+use super::lines::Nanoseconds;
+use crate::proved::tz_query::query::answers::answer;
 use crate::shim::Vec;
 use crate::shim::alloc::{AllocError, Allocator};
-use tz::proved::tz::inner::{Fields, TextBuffer};
+use crate::shim::io::{Read, Write};
+use core::{error, fmt};
+use tz::proved::tz::TimeZoneRef;
+use tz::proved::tz::error::ReadFault;
+use tz::proved::tz::inner::{Fields, TextBuffer, middle_of, read_to_end, two_pairs};
 
 /// What writing returns: nothing, or that an allocation failed.
 pub type Written = Result<(), AllocError>;
 
-/// Where answers are written: onto a page. If the page has no room for one more line and its front (what stands before the date time, such as `N `),
-/// it is first appended to the answers before it.
+/// Where answers are written: onto a page. If the page has no room for one more line and its front
+/// (what stands before the date time, such as `N `), it is first appended to the answers before it.
 pub struct Output<A: Allocator> {
     pub answers: Vec<u8, A>,
     pub page: Page,
@@ -28,7 +32,6 @@ impl<A: Allocator> Output<A> {
     }
 
     /// Makes room for one more line, with its front, on the page.
-    #[inline(always)]
     pub fn make_room(&mut self) -> Written {
         if self.page.has_room() {
             return Ok(());
@@ -74,3 +77,164 @@ impl<A: Allocator> Output<A> {
         Ok(())
     }
 }
+
+/// The number of bytes that a page holds.
+const SIZE: usize = 2040;
+
+/// Room that is made at once: for a short line, or for a front (what stands before a date time,
+/// such as `N `) and the line of the date time. Neither is longer.
+const LONGEST: usize = 160;
+
+/// Printed text of at most 2040 bytes, which is kept without an allocation.
+///
+/// A line is put together from pieces that are copied whole: the year, the rest of the date and
+/// time, the nanoseconds and the suffix of the type.
+pub struct Page {
+    bytes: [u8; SIZE],
+    len: usize,
+}
+
+impl Page {
+    /// Makes an empty page.
+    pub fn new() -> Page {
+        Page {
+            bytes: [0; SIZE],
+            len: 0,
+        }
+    }
+
+    /// Whether one more line, with its front, fits onto the page.
+    pub fn has_room(&self) -> bool {
+        self.len <= SIZE - LONGEST
+    }
+
+    /// Clears the page.
+    pub fn clear(&mut self) {
+        self.len = 0;
+    }
+
+    /// Returns the text on the page.
+    pub fn as_bytes(&self) -> &[u8] {
+        &self.bytes[..self.len]
+    }
+
+    /// Appends bytes to the page.
+    pub fn push(&mut self, text: &[u8]) {
+        let end = self.len + text.len();
+        self.bytes[self.len..end].copy_from_slice(text);
+        self.len = end;
+    }
+
+    /// Removes the last byte, if there is one.
+    pub fn pop(&mut self) {
+        self.len = self.len.saturating_sub(1);
+    }
+
+    /// Appends a year of any number of digits.
+    #[inline(never)]
+    fn push_any_year(&mut self, year: i32) {
+        let mut text = TextBuffer::new();
+        text.push_year(year);
+        self.push(text.as_bytes());
+    }
+
+    /// Appends a year, in few steps if it has four digits.
+    #[inline(always)]
+    fn push_year(&mut self, year: i32) {
+        if year < 1000 || year > 9999 {
+            self.push_any_year(year);
+        } else {
+            let (front, back) = two_pairs(year.unsigned_abs());
+            self.push(&front);
+            self.push(&back);
+        }
+    }
+
+    /// Appends what follows the year on the line of a date time: month to second, the nanoseconds,
+    /// and the suffix of its type.
+    #[inline(always)]
+    fn push_rest(&mut self, middle: &[u8; 16], nine: &[u8; 9], suffix: &Suffix) {
+        let at = self.len;
+        self.bytes[at..at + 16].copy_from_slice(middle);
+        self.bytes[at + 16..at + 25].copy_from_slice(nine);
+        self.bytes[at + 25..at + 57].copy_from_slice(&suffix.bytes);
+        self.len = at + 25 + suffix.len;
+    }
+
+    /// Appends the line of a date time: the fields with these nanoseconds in the place of their
+    /// own, the offset and the name of its type, and LF.
+    #[inline(always)]
+    pub fn push_date_time(&mut self, fields: &Fields, nanoseconds: &Nanoseconds, suffix: &Suffix) {
+        self.push_year(fields.year);
+        self.push_rest(&middle_of(fields), &nanoseconds.digits, suffix);
+    }
+}
+
+/// Why a run ends without all answers.
+#[derive(Debug)]
+pub enum RunFault {
+    /// A read of the queries failed.
+    Read,
+    /// The queries or their answers ran out of memory.
+    Memory,
+    /// A write of the answers failed, or accepted no byte.
+    Write,
+}
+
+/// Writes the bytes as far as can be, and returns whether all are written.
+pub(super) fn write_front<W: Write>(out: &mut W, bytes: &[u8]) -> bool {
+    let mut rest = bytes;
+    while !rest.is_empty() {
+        let Ok(count @ 1..) = out.write(rest) else {
+            return false;
+        };
+        rest = &rest[count..];
+    }
+    true
+}
+
+/// The initial capacity for input. Memory that is not written to costs little.
+const FIRST_ROOM: usize = 262_144;
+
+/// Reads the input to its end, and then writes the answers of its lines over a zone, as [`answer`]
+/// makes them.
+///
+/// # Errors
+///
+/// The first of these:
+///
+/// - [`RunFault::Read`] if a read of the queries fails;
+/// - [`RunFault::Memory`] if an allocation for the queries or their answers fails;
+/// - [`RunFault::Write`] if a write of the answers fails, or accepts no byte.
+///
+/// After the first two the writer is as it was; after the last a prefix of the answers may have
+/// been written.
+pub fn run<A: Allocator + Copy, R: Read, W: Write>(
+    alloc: A,
+    zone: TimeZoneRef<'_>,
+    input: &mut R,
+    out: &mut W,
+) -> Result<(), RunFault> {
+    let queries = read_to_end(alloc, input, FIRST_ROOM).map_err(|fault| match fault {
+        ReadFault::Memory(_) => RunFault::Memory,
+        ReadFault::Failed(_) => RunFault::Read,
+    })?;
+    let answers = answer(alloc, zone, &queries).map_err(|_| RunFault::Memory)?;
+    if write_front(out, &answers) {
+        Ok(())
+    } else {
+        Err(RunFault::Write)
+    }
+}
+
+impl fmt::Display for RunFault {
+    fn fmt(&self, f: &mut fmt::Formatter<'_>) -> fmt::Result {
+        match self {
+            RunFault::Read => f.write_str("cannot read queries"),
+            RunFault::Memory => f.write_str("no memory"),
+            RunFault::Write => f.write_str("cannot write answers"),
+        }
+    }
+}
+
+impl error::Error for RunFault {}

@@ -2,7 +2,7 @@
 //! The program over arguments, a file reader, an input and outputs that are passed in.
 
 use crate::proved::tz_query::query::lines::read_number;
-use crate::proved::tz_query::query::streams::{RunFault, run, write_front};
+use crate::proved::tz_query::query::output::{RunFault, run, write_front};
 use crate::shim::Vec;
 use crate::shim::alloc::Allocator;
 use crate::shim::io::{Read, Write};
@@ -65,7 +65,7 @@ fn zone_of_arguments<A: Allocator + Copy, F: Fn(&str) -> Result<Vec<u8>, ReadFau
 
 /// Prints the line of a failure, as far as it can be written, and returns its status.
 fn fail<E: Write>(err: &mut E, line: &str) -> u8 {
-    // An error of the error output has no place where it could be told.
+    // An error of the error output has nowhere to be told.
     let _ = write_front(err, line.as_bytes());
     1
 }
@@ -81,10 +81,12 @@ fn line_of(fault: RunFault) -> &'static str {
 
 /// Runs the program and returns its status.
 ///
-/// `arguments` are an option and its value, which name a zone: `-o` that of an offset from UTC in seconds, `-f` that of the TZif
-/// file which the reader finds at a path, `-z` that of a string, as [`TimeZone::from_posix_tz`] returns it. The zone is made first, then the
-/// input is read to its end, and then the answers of its lines are written. An error prints one line to `err`, if that can be written, and
-/// the status is 1, or 2 if the zone is invalid. Whatever the status, what was appended to `out` is empty or a prefix of the answers.
+/// `arguments` are an option and its value, which name a zone: `-o` that of an offset from UTC in
+/// seconds, `-f` that of the TZif file which the reader finds at a path, `-z` that of a string, as
+/// [`TimeZone::from_posix_tz`] returns it. The zone is made first, then the input is read to its
+/// end, and then the answers of its lines are written. An error prints one line to `err`, if that
+/// can be written, and the status is 1, or 2 if the zone is invalid. Whatever the status, what was
+/// appended to `out` is empty or a prefix of the answers.
 pub fn tool<A, F, R, W, E>(
     alloc: A,
     arguments: &[&str],

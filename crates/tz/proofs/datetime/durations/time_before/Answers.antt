@@ -11,6 +11,10 @@ returns c =
     let over = c.subsec_nanos.ensures in
     let small = below_a_second n c.subsec_nanos.result over in
     record {
-      some = timespec_earlier c.carried.result _ c.args.seconds c.args.nanoseconds n c.as_secs-taken.result c.subsec_nanos.result c.carried.ensures.some c.as_secs-taken.ensures over (omega (arith, ints, c.requires.instant.0, c.requires.instant.1));
-      in_range = range_earlier c.carried.result _ c.args.seconds c.args.nanoseconds n c.as_secs-taken.result c.subsec_nanos.result c.carried.ensures.in_range c.as_secs-taken.ensures over (omega (arith, ints, c.requires.instant.0, c.requires.instant.1));
+      some = timespec_earlier c.carried.result _ c.args.seconds c.args.nanoseconds n c.as_secs-taken.result
+          c.subsec_nanos.result c.carried.ensures.some c.as_secs-taken.ensures over
+          (omega (arith, ints, c.requires.instant.0, c.requires.instant.1));
+      in_range = range_earlier c.carried.result _ c.args.seconds c.args.nanoseconds n c.as_secs-taken.result
+          c.subsec_nanos.result c.carried.ensures.in_range c.as_secs-taken.ensures over
+          (omega (arith, ints, c.requires.instant.0, c.requires.instant.1));
     }

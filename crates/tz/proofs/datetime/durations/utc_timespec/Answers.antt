@@ -13,6 +13,8 @@ returns-in_err-seconds-clause-in_range c =
       (λ some. absurd cc),
       (λ range.
           let is = timespec_exists c.args.total in
-          let fits : SFits w64 is.0 = IsInstant-from_bounds is.0 (omega (arith, ints, range.0, is.2.whole, is.2.part)) (omega (arith, ints, range.1, is.2.whole, is.2.part)) in
-          absurd ((rw (to_z-of_z w128 c.args.total c.ranges.total) at c.in_err-seconds.ensures.none) is.0 is.1 is.2 fits)),
+          let fits : SFits w64 is.0 = IsInstant-from_bounds is.0 (omega (arith, ints, range.0, is.2.whole, is.2.part))
+          (omega (arith, ints, range.1, is.2.whole, is.2.part)) in
+          absurd ((rw (to_z-of_z w128 c.args.total c.ranges.total) at c.in_err-seconds.ensures.none) is.0 is.1 is.2
+          fits)),
     )

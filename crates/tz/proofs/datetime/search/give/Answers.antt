@@ -20,11 +20,22 @@ returns-in_default-before-clause-ok g c =
         refl,
         elim c.else-since-unix_time.branch [
           | else-since-unix_time-via-then-since-unix_time+else-unix_time-last w ↦
-              none_late c.args.reading (lent_type c.args.before) c.args.since (lent_type c.args.local_time_type) c.args.last c.in-Some.after.now u (ap lent_type c.in-Some.is) at
-              (omega (arith, ints, w.if-since-unix_time.true, since_is, unix_time_is)) (omega (arith, ints, w.if-unix_time-last.false, to_z-of_z w64 c.args.last c.ranges.last, unix_time_is))
+              none_late c.args.reading (lent_type c.args.before) c.args.since (lent_type c.args.local_time_type)
+              c.args.last c.in-Some.after.now u (ap lent_type c.in-Some.is) at
+              (omega (arith, ints, w.if-since-unix_time.true, since_is, unix_time_is))
+              (omega (
+                arith,
+                ints,
+                w.if-unix_time-last.false,
+                to_z-of_z w64 c.args.last c.ranges.last,
+                unix_time_is,
+              ))
           | else-since-unix_time-via-else-since-unix_time w ↦
-              none_beside c.args.reading (lent_type c.args.before) c.args.since (lent_type c.args.local_time_type) c.args.last c.in-Some-before.before.now c.in-Some.after.now u (ap lent_type c.in-Some-before.is) (ap lent_type c.in-Some.is)
-              at (omega (arith, ints, w.if-since-unix_time.false, since_is, unix_time_is)) (rw (reading_is, since_is) at c.if-passes_over.ensures)
+              none_beside c.args.reading (lent_type c.args.before) c.args.since (lent_type c.args.local_time_type)
+              c.args.last c.in-Some-before.before.now c.in-Some.after.now u (ap lent_type c.in-Some-before.is)
+              (ap lent_type c.in-Some.is)
+              at (omega (arith, ints, w.if-since-unix_time.false, since_is, unix_time_is))
+              (rw (reading_is, since_is) at c.if-passes_over.ensures)
         ],
       ),
     )
@@ -41,10 +52,19 @@ returns-in_default-before-2-clause-ok g c =
         refl,
         elim c.else-since-unix_time.branch [
           | else-since-unix_time-via-then-since-unix_time+else-unix_time-last w ↦
-              none_late c.args.reading (lent_type c.args.before) c.args.since (lent_type c.args.local_time_type) c.args.last c.in-Some.after.now u (ap lent_type c.in-Some.is) at
-              (omega (arith, ints, w.if-since-unix_time.true, since_is, unix_time_is)) (omega (arith, ints, w.if-unix_time-last.false, to_z-of_z w64 c.args.last c.ranges.last, unix_time_is))
+              none_late c.args.reading (lent_type c.args.before) c.args.since (lent_type c.args.local_time_type)
+              c.args.last c.in-Some.after.now u (ap lent_type c.in-Some.is) at
+              (omega (arith, ints, w.if-since-unix_time.true, since_is, unix_time_is))
+              (omega (
+                arith,
+                ints,
+                w.if-unix_time-last.false,
+                to_z-of_z w64 c.args.last c.ranges.last,
+                unix_time_is,
+              ))
           | else-since-unix_time-via-else-since-unix_time w ↦
-              none_first c.args.reading (lent_type c.args.before) c.args.since (lent_type c.args.local_time_type) c.args.last c.in-Some.after.now u (ap lent_type c.in_default-before.is) (ap lent_type c.in-Some.is)
+              none_first c.args.reading (lent_type c.args.before) c.args.since (lent_type c.args.local_time_type)
+              c.args.last c.in-Some.after.now u (ap lent_type c.in_default-before.is) (ap lent_type c.in-Some.is)
               at (omega (arith, ints, w.if-since-unix_time.false, since_is, unix_time_is))
         ],
       ),

@@ -4,4 +4,11 @@ use Rattle.std.proofs.lemmas.Int.{ints}
 use Rattle.tz.proofs.datetime.search.window.Goals as goal
 
 pub returns-clause-width : goal.returns-clause-width
-returns-clause-width c = omega (arith, ints, c.from.ensures, c.from-2.ensures, c.ranges.least.sfits, c.ranges.greatest.sfits)
+returns-clause-width c = omega (
+  arith,
+  ints,
+  c.from.ensures,
+  c.from-2.ensures,
+  c.ranges.least.sfits,
+  c.ranges.greatest.sfits,
+)

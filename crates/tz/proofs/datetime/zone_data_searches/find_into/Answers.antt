@@ -7,9 +7,10 @@ use Rattle.tz.proofs.datetime.zone_data_searches.find_into.Goals as goal
 
 pub returns-clause-ok : goal.returns-clause-ok
 returns-clause-ok c =
-    let ok = c.in_ok-search_data.ensures.ok in
+    let ok = c.in_ok-search.ensures.ok in
     let new = c.new-writer.ensures in
-    let holds = held found_data c.new-writer.result c.search_data.new.list c.args.slots.now c.args.skip ok.0 ok.1 (omega (arith, ok.3)) new.slots new.skip new.count in
+    let holds = held found_data c.new-writer.result c.search.new.list c.args.slots.now c.args.skip ok.0 ok.1
+    (omega (arith, ok.3)) new.slots new.skip new.count in
     let same_reference = ok.1.0 ∙ new.same_reference in
     let slots = holds.1 in
     (ok.0, ok.2, holds.0, grind (arith, common_steps))

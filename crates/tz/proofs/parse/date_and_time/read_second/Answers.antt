@@ -11,4 +11,6 @@ pub returns-then-is_past_the_end : goal.returns-then-is_past_the_end
 returns-then-is_past_the_end c n rest is =
     let date = c.args.date.now in
     let same = pair_unique rest c.in_ok-second.rest.now is.0 c.in_ok-second.ensures in
-    subst (λ s. ¬ IsPastTheEnd (fields_of date.year date.month date.month_day c.args.hour c.args.minute s 0)) same.0 is.1 (rw (to_z-of_z w32 date.year (search rules)) at (subst IsPastTheEnd c.new-fields.ensures c.if-is_past_the_end.ensures))
+    subst (λ s. ¬ IsPastTheEnd (fields_of date.year date.month date.month_day c.args.hour c.args.minute s 0)) same.0
+    is.1 (rw (to_z-of_z w32 date.year (search rules)) at (subst IsPastTheEnd c.new-fields.ensures
+    c.if-is_past_the_end.ensures))

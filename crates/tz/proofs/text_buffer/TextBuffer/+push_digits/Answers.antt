@@ -14,4 +14,10 @@ returns-then-number-lt100-clause-text t c =
 
 pub returns-else-number-lt100-clause-text : goal.returns-else-number-lt100-clause-text
 returns-else-number-lt100-clause-text t c =
-    rw (c.push_two_digits-else-number-lt100.ensures.text, c.push_digits.ensures.text, decimal-pairs c.args.number (omega arith) (omega arith), append_assoc) refl
+    rw (
+      c.push_two_digits-else-number-lt100.ensures.text,
+      c.push_digits.ensures.text,
+      decimal-pairs c.args.number
+          (omega arith) (omega arith),
+      append_assoc,
+    ) refl

@@ -10,5 +10,6 @@ invariant_of-self c =
     let line = c.self.inside in
     let within : line.len < length line.bytes = search rules in (
       search rules,
-      ∣ rw (take_more_set line.bytes line.len c.args.byte within) (IsUtf8-append _ _ (IsUtf8-had _ c.self.invariant.1) (IsUtf8-from_ascii (c.args.byte ∷ []) (IsAscii-cons c.args.byte [] c.requires.ascii IsAscii-nil))) ∣₁,
+      ∣ rw (take_more_set line.bytes line.len c.args.byte within) (IsUtf8-append _ _ (IsUtf8-had _ c.self.invariant.1)
+          (IsUtf8-from_ascii (c.args.byte ∷ []) (IsAscii-cons c.args.byte [] c.requires.ascii IsAscii-nil))) ∣₁,
     )

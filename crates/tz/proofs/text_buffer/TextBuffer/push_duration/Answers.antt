@@ -11,10 +11,19 @@ push_ascii-requires-clause-ascii c =
     let s = c.args.seconds in
     let hours : s / 3600 < 100 = omega arith in
     let minutes : s / 60 % 60 < 100 = omega arith in
-    let bytes : slice_index_or c.pair_of-hours.result 0 0 ∷ slice_index_or c.pair_of-hours.result 1 0 ∷ 58 ∷ slice_index_or c.pair_of-minutes.result 0 0 ∷ slice_index_or c.pair_of-minutes.result 1 0 ∷ []
+    let bytes : slice_index_or c.pair_of-hours.result 0 0 ∷ slice_index_or c.pair_of-hours.result 1 0 ∷ 58
+    ∷ slice_index_or c.pair_of-minutes.result 0 0 ∷ slice_index_or c.pair_of-minutes.result 1 0 ∷ []
     ≡ two_digits (s / 3600) ++ (58 ∷ two_digits (s / 60 % 60)) =
-    rw (c.pair_of-hours.ensures ∙ two_digits-below (s / 3600) hours, c.pair_of-minutes.ensures ∙ two_digits-below (s / 60 % 60) minutes, two_digits-below (s / 3600) hours, two_digits-below (s / 60 % 60) minutes) refl in
-    subst IsAscii (sym bytes) (IsAscii-append _ _ (two_digits-ascii (s / 3600) hours) (IsAscii-cons 58 _ (omega arith) (two_digits-ascii (s / 60 % 60) minutes)))
+    rw (
+      c.pair_of-hours.ensures ∙ two_digits-below (s / 3600) hours,
+      c.pair_of-minutes.ensures
+          ∙ two_digits-below (s / 60 % 60) minutes,
+      two_digits-below (s / 3600) hours,
+      two_digits-below
+          (s / 60 % 60) minutes,
+    ) refl in
+    subst IsAscii (sym bytes) (IsAscii-append _ _ (two_digits-ascii (s / 3600) hours)
+    (IsAscii-cons 58 _ (omega arith) (two_digits-ascii (s / 60 % 60) minutes)))
 
 pub returns-then-rest-eq0-clause-text : goal.returns-then-rest-eq0-clause-text
 returns-then-rest-eq0-clause-text c =

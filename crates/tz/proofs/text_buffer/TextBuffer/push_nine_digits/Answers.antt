@@ -11,9 +11,24 @@ push_ascii-requires-clause-ascii c =
     let third = two_digits-below (n / 10000 % 100) (omega arith) in
     let fourth = two_digits-below (n % 10000 / 100) (omega arith) in
     let fifth = two_digits-below (n % 10000 % 100) (omega arith) in
-    let bytes : (48 + n / 10000 / 10000) ∷ slice_index_or c.pair_of-second.result 0 0 ∷ slice_index_or c.pair_of-second.result 1 0 ∷ slice_index_or c.pair_of-third.result 0 0 ∷ slice_index_or c.pair_of-third.result 1 0
-    ∷ slice_index_or c.pair_of-fourth.result 0 0 ∷ slice_index_or c.pair_of-fourth.result 1 0 ∷ slice_index_or c.pair_of-fifth.result 0 0 ∷ slice_index_or c.pair_of-fifth.result 1 0 ∷ [] ≡ nine_digits n =
-    rw (c.pair_of-second.ensures ∙ second, c.pair_of-third.ensures ∙ third, c.pair_of-fourth.ensures ∙ fourth, c.pair_of-fifth.ensures ∙ fifth, nine_digits-pairs n c.requires.below, second, third, fourth, fifth) refl in
+    let bytes : (48 + n / 10000 / 10000) ∷ slice_index_or c.pair_of-second.result 0 0
+    ∷ slice_index_or c.pair_of-second.result 1 0 ∷ slice_index_or c.pair_of-third.result 0 0
+    ∷ slice_index_or c.pair_of-third.result 1 0
+    ∷ slice_index_or c.pair_of-fourth.result 0 0 ∷ slice_index_or c.pair_of-fourth.result 1 0
+    ∷ slice_index_or c.pair_of-fifth.result 0 0 ∷ slice_index_or c.pair_of-fifth.result 1 0 ∷ [] ≡ nine_digits n =
+    rw (
+      c.pair_of-second.ensures ∙ second,
+      c.pair_of-third.ensures ∙ third,
+      c.pair_of-fourth.ensures
+          ∙ fourth,
+      c.pair_of-fifth.ensures ∙ fifth,
+      nine_digits-pairs n c.requires.below,
+      second,
+      third,
+      fourth,
+      fifth,
+    )
+    refl in
     subst IsAscii (sym bytes) (nine_digits-ascii n c.requires.below)
 
 pub returns-clause-text : goal.returns-clause-text

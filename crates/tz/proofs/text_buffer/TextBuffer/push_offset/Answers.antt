@@ -14,8 +14,25 @@ returns-then-ut_offset-eq0-clause-text c =
 
 pub returns-then-ut_offset-lt0-clause-text : goal.returns-then-ut_offset-lt0-clause-text
 returns-then-ut_offset-lt0-clause-text c =
-    rw (c.push_duration.ensures.text, c.push-then-ut_offset-lt0.ensures.text, c.unsigned_abs.ensures.value, to_z-of_z w32 c.args.ut_offset c.ranges.ut_offset, offset_text-negative c.args.ut_offset (omega (arith, ints)), append_assoc) refl
+    rw (
+      c.push_duration.ensures.text,
+      c.push-then-ut_offset-lt0.ensures.text,
+      c.unsigned_abs.ensures.value,
+      to_z-of_z
+          w32 c.args.ut_offset c.ranges.ut_offset,
+      offset_text-negative c.args.ut_offset
+          (omega (arith, ints)),
+      append_assoc,
+    ) refl
 
 pub returns-else-ut_offset-lt0-clause-text : goal.returns-else-ut_offset-lt0-clause-text
 returns-else-ut_offset-lt0-clause-text c =
-    rw (c.push_duration-else-ut_offset-lt0.ensures.text, c.push-else-ut_offset-lt0.ensures.text, c.unsigned_abs-else-ut_offset-lt0.ensures.value, to_z-of_z w32 c.args.ut_offset c.ranges.ut_offset, offset_text-positive c.args.ut_offset (omega (arith, ints)), append_assoc) refl
+    rw (
+      c.push_duration-else-ut_offset-lt0.ensures.text,
+      c.push-else-ut_offset-lt0.ensures.text,
+      c.unsigned_abs-else-ut_offset-lt0.ensures.value,
+      to_z-of_z w32 c.args.ut_offset
+          c.ranges.ut_offset,
+      offset_text-positive c.args.ut_offset (omega (arith, ints)),
+      append_assoc,
+    ) refl

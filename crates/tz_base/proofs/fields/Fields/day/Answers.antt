@@ -11,6 +11,7 @@ returns-clause-bound c =
     let f = c.args.self.now in
     let fits : SFits w32 f.year = search rules in
     let bounds = first_day_bounds f.year fits in
-    let in_year = day_in_year f.year f.month f.month_day c.requires.in_range.month.0 c.requires.in_range.month.1 c.requires.in_range.month_day.0 c.requires.in_month in
+    let in_year = day_in_year f.year f.month f.month_day c.requires.in_range.month.0 c.requires.in_range.month.1
+    c.requires.in_range.month_day.0 c.requires.in_month in
     let value = rw (to_z-of_z w32 f.year fits) at c.days_since_unix_epoch.ensures.value in
     (omega (arith, ints), omega (arith, ints))

@@ -11,4 +11,5 @@ returns c =
     let date = c.date_of_day-year.result in
     let moved = rw (to_z-of_z w64 c.args.reading c.ranges.reading) at c.moved_seconds-seconds.ensures in
     rw (to_z-of_z w32 date.0 (search rules))
-    (civil_from_parts c.args.reading c.moved_seconds-seconds.result date.0 date.1 date.2 c.args.nanoseconds moved c.date_of_day-year.ensures c.requires.part (month_length-le (is_leap date.0) date.1))
+    (civil_from_parts c.args.reading c.moved_seconds-seconds.result date.0 date.1 date.2 c.args.nanoseconds moved
+    c.date_of_day-year.ensures c.requires.part (month_length-le (is_leap date.0) date.1))

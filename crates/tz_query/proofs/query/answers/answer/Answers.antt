@@ -14,10 +14,13 @@ loop-rest-init g c =
     let kept = c.keep_segment.ensures in
     let queries = c.args.queries.now in
     let items = c.in_ok-answers.answers.items in
-    let none : items ++ c.new-page.result ≡ [] = ap (λ page. items ++ page) c.new-page.ensures ∙ append-nil items ∙ c.in_ok-answers.ensures.items in (
+    let none : items ++ c.new-page.result ≡ [] = ap (λ page. items ++ page) c.new-page.ensures ∙ append-nil items
+    ∙ c.in_ok-answers.ensures.items in (
       kept.sound (λ u after before. absurd (omega (arith, ints, after, before))),
       λ more are.
-          subst (λ bytes. AreAnswers (zone_of c.args.zone) queries (bytes ++ more)) (sym (ap written kept.output_is ∙ none)) (subst (λ zone. AreAnswers (zone_of zone) queries more) kept.zone_is are),
+          subst (λ bytes. AreAnswers (zone_of c.args.zone) queries (bytes ++ more))
+          (sym (ap written kept.output_is ∙ none))
+          (subst (λ zone. AreAnswers (zone_of zone) queries more) kept.zone_is are),
     )
 
 pub loop-rest-preserved : goal.loop-rest-preserved
@@ -30,14 +33,17 @@ loop-rest-preserved g c =
           let over = subst (λ zone. AreAnswers (zone_of zone) c.in_ok-rest.rest.now more) adds.zone_is are in
           subst (AreAnswers (zone_of c.args.zone) c.args.queries.now)
           (sym (append_assoc (written was.output) (ended answer) more) ∙ ap (λ bytes. bytes ++ more) (sym adds.text_is))
-          (c.loop-rest.invariant.1 (ended answer ++ more) (AreAnswers-cons (zone_of was.zone) _ line _ more answer some first is over)),
+          (c.loop-rest.invariant.1 (ended answer ++ more)
+          (AreAnswers-cons (zone_of was.zone) _ line _ more answer some first is over)),
     )
 
 pub returns-clause-ok : goal.returns-clause-ok
 returns-clause-ok g c =
     let end = c.loop-rest.answers in
-    subst (AreAnswers (zone_of c.args.zone) c.args.queries.now) (append-nil (written end.output) ∙ sym c.in_ok-flush.ensures.answers)
-    (c.loop-rest.invariant.1 [] (subst (λ rest. AreAnswers (zone_of end.zone) rest []) (sym (nil_from_length c.loop-rest.rest.now (search rules))) (AreAnswers-nil (zone_of end.zone))))
+    subst (AreAnswers (zone_of c.args.zone) c.args.queries.now) (append-nil (written end.output)
+    ∙ sym c.in_ok-flush.ensures.answers)
+    (c.loop-rest.invariant.1 [] (subst (λ rest. AreAnswers (zone_of end.zone) rest [])
+    (sym (nil_from_length c.loop-rest.rest.now (search rules))) (AreAnswers-nil (zone_of end.zone))))
 
 pub loop-rest-smaller : goal.loop-rest-smaller
 loop-rest-smaller g c =

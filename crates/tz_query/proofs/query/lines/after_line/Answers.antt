@@ -8,10 +8,16 @@ use Rattle.tz_query.proofs.query.lines.after_line.Goals as goal
 pub returns-then-byte-eq10 : goal.returns-then-byte-eq10
 returns-then-byte-eq10 c =
     let bytes = c.args.bytes.now in
-    let place = c.loop-place.place in
-    (take place bytes, subst (IsFirstLine bytes (take place bytes)) (sym (take_rest bytes (place + 1))) (first_line_to_end bytes place (omega arith) c.loop-place.invariant (omega arith)))
+    let position = c.loop-position.position in (
+      take position bytes,
+      subst (IsFirstLine bytes (take position bytes)) (sym (take_rest bytes (position + 1)))
+          (first_line_to_end bytes position (omega arith) c.loop-position.invariant (omega arith)),
+    )
 
 pub returns : goal.returns
 returns c =
-    let bytes = c.args.bytes.now in
-    (bytes, whole_line bytes (subst IsLine (take_all c.loop-place.place bytes (omega arith)) c.loop-place.invariant))
+    let bytes = c.args.bytes.now in (
+      bytes,
+      whole_line bytes (subst IsLine (take_all c.loop-position.position bytes (omega arith))
+          c.loop-position.invariant),
+    )

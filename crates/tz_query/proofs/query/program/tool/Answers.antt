@@ -1,4 +1,5 @@
--- A run that succeeds wrote all answers over the zone of the arguments, which are a front of them. A run with a zone has no status 2.
+-- A run that succeeds wrote all answers over the zone of the arguments, which are a front of them. A run with a zone
+-- has no status 2.
 use Rattle.std.proofs.Common.{◌≡◌, ◌<◌, ◌⊎◌, inl, inr, sym, subst, ℕ, List, [], append-nil, Option, arith}
 use Rattle.tz_zone.specs.Settings.{Read}
 use Rattle.tz_zone.specs.Table.{Zone}
@@ -7,29 +8,34 @@ use Rattle.tz_query.specs.Program.{NamesZone, BeginsAnswers}
 use Rattle.tz_query.specs.Streams.{WritesAnswers, WritesFrontOfAnswers}
 use Rattle.tz_query.proofs.query.program.tool.Goals as goal
 
-begun : {reads : List ℕ → Read → Type 0} {arguments : List (List ℕ)} (zone own : Zone) (unread left written now : Option (List ℕ)) → zone ≡ own → NamesZone reads arguments own →
+begun : {reads : List ℕ → Read → Type 0} {arguments : List (List ℕ)} (zone own : Zone)
+    (unread left written now : Option (List ℕ)) → zone ≡ own → NamesZone reads arguments own →
     WritesAnswers zone unread left written now → BeginsAnswers reads arguments unread left written now
 begun zone own unread left written now is asked (answers, are, wrote) = record {
   zone = own;
   asked = asked;
-  wrote = subst (λ z. WritesFrontOfAnswers z unread left written now) is (answers, are, (answers, [], sym (append-nil answers), wrote));
+  wrote = subst (λ z. WritesFrontOfAnswers z unread left written now) is
+      (answers, are, (answers, [], sym (append-nil answers), wrote));
 }
 
 -- neither status 2 nor no zone
-unread_never : {Names : Zone → Type 0} {P : Type 0} (status : ℕ) (own : Zone) → status < 2 → Names own → (status ≡ 2) ⊎ ((zone : Zone) → ¬ Names zone) → P
+unread_never : {Names : Zone → Type 0} {P : Type 0} (status : ℕ) (own : Zone) → status < 2 → Names own → (status ≡ 2)
+    ⊎ ((zone : Zone) → ¬ Names zone) → P
 unread_never status own less asked (inl two) = absurd (omega arith)
 unread_never status own less asked (inr none) = absurd (none own asked)
 
 pub returns-in-Ok-run-clause-written : goal.returns-in-Ok-run-clause-written
 returns-in-Ok-run-clause-written g c =
-    inr (begun (zone_of c.as_ref.result) (own_zone_of c.in-Ok.zone) (g.R.Read.remaining c.args.input.now) (g.R.Read.remaining c.run.new.input) (g.W.Write.contents c.args.out.now) (g.W.Write.contents c.run.new.out)
+    inr (begun (zone_of c.as_ref.result) (own_zone_of c.in-Ok.zone) (g.R.Read.remaining c.args.input.now)
+    (g.R.Read.remaining c.run.new.input) (g.W.Write.contents c.args.out.now) (g.W.Write.contents c.run.new.out)
     c.as_ref.ensures c.in-Ok.ensures.ok c.in-Ok-run.ensures.ok)
 
 pub returns-in-Ok-run-clause-answered : goal.returns-in-Ok-run-clause-answered
 returns-in-Ok-run-clause-answered g c = λ done. record {
   zone = own_zone_of c.in-Ok.zone;
   asked = c.in-Ok.ensures.ok;
-  wrote = subst (λ z. WritesAnswers z (g.R.Read.remaining c.args.input.now) (g.R.Read.remaining c.run.new.input) (g.W.Write.contents c.args.out.now) (g.W.Write.contents c.run.new.out)) c.as_ref.ensures c.in-Ok-run.ensures.ok;
+  wrote = subst (λ z. WritesAnswers z (g.R.Read.remaining c.args.input.now) (g.R.Read.remaining c.run.new.input)
+      (g.W.Write.contents c.args.out.now) (g.W.Write.contents c.run.new.out)) c.as_ref.ensures c.in-Ok-run.ensures.ok;
 }
 
 pub returns-in-Ok-run-clause-unread : goal.returns-in-Ok-run-clause-unread

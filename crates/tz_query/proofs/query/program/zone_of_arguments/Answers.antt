@@ -29,33 +29,51 @@ two_texts (option ∷ []) none least most = absurd (omega arith)
 two_texts (option ∷ value ∷ []) none least most = refl
 two_texts (option ∷ value ∷ other ∷ more) none least most = absurd (omega arith)
 
-names : {reads : List ℕ → Read → Type 0} {zone : Zone} (arguments : List (Bor (List ℕ))) (none : Bor (List ℕ)) → 2 ≤ length arguments → length arguments < 3 →
-    IsZoneOfOption reads (get_or arguments 0 none).now (get_or arguments 1 none).now zone → NamesZone reads (texts_of arguments) zone
-names arguments none least most is = ((get_or arguments 0 none).now, (get_or arguments 1 none).now, two_texts arguments none least most, is)
+names : {reads : List ℕ → Read → Type 0} {zone : Zone} (arguments : List (Bor (List ℕ))) (none : Bor (List ℕ))
+    → 2 ≤ length arguments → length arguments < 3 →
+    IsZoneOfOption reads (get_or arguments 0 none).now (get_or arguments 1 none).now zone
+    → NamesZone reads (texts_of arguments) zone
+names arguments none least most is = (
+  (get_or arguments 0 none).now,
+  (get_or arguments 1 none).now,
+  two_texts arguments none least most,
+  is,
+)
 
-refuses : {reads : List ℕ → Read → Type 0} (arguments : List (Bor (List ℕ))) (none : Bor (List ℕ)) → 2 ≤ length arguments → length arguments < 3 →
-    IsRefusedOption reads (get_or arguments 0 none).now (get_or arguments 1 none).now → NamesRefusedZone reads (texts_of arguments)
-refuses arguments none least most is = ((get_or arguments 0 none).now, (get_or arguments 1 none).now, two_texts arguments none least most, is)
+refuses : {reads : List ℕ → Read → Type 0} (arguments : List (Bor (List ℕ))) (none : Bor (List ℕ))
+    → 2 ≤ length arguments → length arguments < 3 →
+    IsRefusedOption reads (get_or arguments 0 none).now (get_or arguments 1 none).now
+    → NamesRefusedZone reads (texts_of arguments)
+refuses arguments none least most is = (
+  (get_or arguments 0 none).now,
+  (get_or arguments 1 none).now,
+  two_texts arguments none least most,
+  is,
+)
 
 value_in : {T : Type 0} (o : Option T) (x : T) (P : T → Type 0) → o ≡ Some x → IfSome o P → P x
 value_in o x P is known = subst (λ v. IfSome v P) is known
 
 -- an error other than out of memory is of the offset
-offset_refused : {F : Type 0} (offset given : ℤ) (error e : TzError) → given ≡ offset → (F × ¬ IsOffset given) ⊎ ((error ≡ Memory alloc_error) × IsOffset given) →
+offset_refused : {F : Type 0} (offset given : ℤ) (error e : TzError) → given ≡ offset → (F × ¬ IsOffset given)
+    ⊎ ((error ≡ Memory alloc_error) × IsOffset given) →
     (error ≡ e) × (e ≢ Memory alloc_error) → ¬ IsOffset offset
 offset_refused offset given error e same (inl (fault, not)) is = subst (λ v. ¬ IsOffset v) same not
 offset_refused offset given error e same (inr (memory, fits)) (is, not) = absurd (not (sym is ∙ memory))
 
 -- and of bytes that are no file
-file_refused : (bytes : List ℕ) (error e : TzError) → ((zone : Zone) → IsTzFile bytes zone → error ≡ Memory alloc_error) → (error ≡ e) × (e ≢ Memory alloc_error) →
+file_refused : (bytes : List ℕ) (error e : TzError) → ((zone : Zone) → IsTzFile bytes zone → error ≡ Memory alloc_error)
+    → (error ≡ e) × (e ≢ Memory alloc_error) →
     (zone : Zone) → ¬ IsTzFile bytes zone
 file_refused bytes error e only (is, not) = λ zone of. not (sym is ∙ only zone of)
 
 -- and of a string that the settings refuse
-text_refused : (reads : List ℕ → Read → Type 0) (text : List ℕ) (error : Error) (e : TzError) → (error ≡ Tz (Memory alloc_error)) ⊎ IsSettingsAnswer reads usual_directories text (Err error) →
+text_refused : (reads : List ℕ → Read → Type 0) (text : List ℕ) (error : Error) (e : TzError)
+    → (error ≡ Tz (Memory alloc_error)) ⊎ IsSettingsAnswer reads usual_directories text (Err error) →
     (error ≡ Tz e) × (e ≢ Memory alloc_error) → IsRefusedText reads text
 text_refused reads text error e (inl memory) (is, not) = let same : e ≡ Memory alloc_error = cc in absurd (not same)
-text_refused reads text error e (inr answer) (is, not) = (e, subst (λ x. IsSettingsAnswer reads usual_directories text (Err x)) is answer, not)
+text_refused reads text error e (inr answer) (is, not) =
+    (e, subst (λ x. IsSettingsAnswer reads usual_directories text (Err x)) is answer, not)
 
 -- a failure to read is of a file that the settings ask for
 text_unread : (reads : List ℕ → Read → Type 0) (text : List ℕ) (error : Error) (fault : Failure)
@@ -90,34 +108,73 @@ never_unread error fault (inr memory) is = let both : faults.Memory ≡ faults.F
 pub returns-in-text-clause-ok : goal.returns-in-text-clause-ok
 returns-in-text-clause-ok g c =
     let offset = c.in_ok-ut_offset-in-text.ut_offset in
-    let number = value_in c.read_offset.result offset _ c.in_ok-ut_offset-in-text.ensures.ok_part c.read_offset.ensures.some in
+    let number = value_in c.read_offset.result offset _ c.in_ok-ut_offset-in-text.ensures.ok_part
+    c.read_offset.ensures.some in
     names c.args.arguments.now _ c.in-text.len_at_least c.in-text.len_below
-    (inl (c.in-text.is-text, (offset, number.0, number.1, c.in_ok-fixed-in-text.ensures.ok.1 ∙ ap fixed_zone (to_z-of_z w32 offset number.1))))
+    (inl (
+      c.in-text.is-text,
+      (
+        offset,
+        number.0,
+        number.1,
+        c.in_ok-fixed-in-text.ensures.ok.1
+            ∙ ap fixed_zone (to_z-of_z w32 offset number.1),
+      ),
+    ))
 
 pub returns-in_err-fixed-in-text-clause-refused : goal.returns-in_err-fixed-in-text-clause-refused
 returns-in_err-fixed-in-text-clause-refused g c =
     let offset = c.in_ok-ut_offset-in-text.ut_offset in
-    let number = value_in c.read_offset.result offset _ c.in_ok-ut_offset-in-text.ensures.ok_part c.read_offset.ensures.some in
-    let p = err_from_is_err_and c.from_residual-in_err-fixed-in-text.result c.from_residual-in_err-fixed-in-text.ensures.1 in
+    let number = value_in c.read_offset.result offset _ c.in_ok-ut_offset-in-text.ensures.ok_part
+    c.read_offset.ensures.some in
+    let p = err_from_is_err_and c.from_residual-in_err-fixed-in-text.result
+    c.from_residual-in_err-fixed-in-text.ensures.1 in
     rw p.1 (λ e is. refuses c.args.arguments.now _ c.in-text.len_at_least c.in-text.len_below
-    (inl (c.in-text.is-text, (offset, number.0, number.1, offset_refused offset _ _ e (to_z-of_z w32 offset number.1) c.in_err-fixed-in-text.ensures.err (refused_by _ _ p.2 e is)))))
+    (inl (
+      c.in-text.is-text,
+      (
+        offset,
+        number.0,
+        number.1,
+        offset_refused offset _ _ e (to_z-of_z w32 offset number.1)
+            c.in_err-fixed-in-text.ensures.err (refused_by _ _ p.2 e is),
+      ),
+    )))
 
 pub returns-in-Ok-clause-ok : goal.returns-in-Ok-clause-ok
 returns-in-Ok-clause-ok g c =
     let IsFile : List ℕ → Type 0 = λ bs. IsTzFile bs (own_zone_of c.in_ok-from_tz_data-in-Ok.field-0) in
     names c.args.arguments.now _ c.in-text-2.len_at_least c.in-text-2.len_below
-    (inr (inl (c.in-text-2.is-text, (c.in-Ok.bytes, says_at g.F.Fn c.reader.ensures c.in-Ok.is, subst IsFile c.deref.ensures.value c.in_ok-from_tz_data-in-Ok.ensures.ok))))
+    (inr (inl (
+      c.in-text-2.is-text,
+      (
+        c.in-Ok.bytes,
+        says_at g.F.Fn c.reader.ensures c.in-Ok.is,
+        subst IsFile c.deref.ensures.value
+            c.in_ok-from_tz_data-in-Ok.ensures.ok,
+      ),
+    )))
 
 pub returns-in_err-from_tz_data-in-Ok-clause-refused : goal.returns-in_err-from_tz_data-in-Ok-clause-refused
 returns-in_err-from_tz_data-in-Ok-clause-refused g c =
-    let p = err_from_is_err_and c.from_residual-in_err-from_tz_data-in-Ok.result c.from_residual-in_err-from_tz_data-in-Ok.ensures.1 in
+    let p = err_from_is_err_and c.from_residual-in_err-from_tz_data-in-Ok.result
+    c.from_residual-in_err-from_tz_data-in-Ok.ensures.1 in
     let IsNone : List ℕ → Type 0 = λ bs. (zone : Zone) → ¬ IsTzFile bs zone in
     rw p.1 (λ e is. refuses c.args.arguments.now _ c.in-text-2.len_at_least c.in-text-2.len_below
-    (inr (inl (c.in-text-2.is-text, (c.in-Ok.bytes, says_at g.F.Fn c.reader.ensures c.in-Ok.is, subst IsNone c.deref.ensures.value (file_refused _ _ e c.in_err-from_tz_data-in-Ok.ensures.only (refused_by _ _ p.2 e is)))))))
+    (inr (inl (
+      c.in-text-2.is-text,
+      (
+        c.in-Ok.bytes,
+        says_at g.F.Fn c.reader.ensures c.in-Ok.is,
+        subst IsNone c.deref.ensures.value
+            (file_refused _ _ e c.in_err-from_tz_data-in-Ok.ensures.only (refused_by _ _ p.2 e is)),
+      ),
+    ))))
 
 pub returns-in-Ok-from_posix_tz-clause-ok : goal.returns-in-Ok-from_posix_tz-clause-ok
 returns-in-Ok-from_posix_tz-clause-ok g c =
-    names c.args.arguments.now _ c.in-text-3.len_at_least c.in-text-3.len_below (inr (inr (c.in-text-3.is-text, c.in-Ok-from_posix_tz.ensures)))
+    names c.args.arguments.now _ c.in-text-3.len_at_least c.in-text-3.len_below
+    (inr (inr (c.in-text-3.is-text, c.in-Ok-from_posix_tz.ensures)))
 
 pub returns-in-text-3-clause-refused : goal.returns-in-text-3-clause-refused
 returns-in-text-3-clause-refused g c = λ e is.

@@ -11,4 +11,5 @@ use Rattle.tz_rule.proofs.timezone.utc_statics.no_rule_of.Code as code
 
 pub no_rule_of_spec : {M : Type 1} → statement M
 no_rule_of_spec 𝓤 𝓛 𝓜 𝓡 wired =
-    cast_Meets (Option.the_row RuleFields.the_row) (Option.the_row TransitionRule.the_row) 𝓛 𝓜 𝓡 None None name (code.unfolded 𝓤 𝓛.H 𝓜 𝓡 wired) (λ κ b o. id⊢ 𝓤 _)
+    cast_Meets (Option.the_row RuleFields.the_row) (Option.the_row TransitionRule.the_row) 𝓛 𝓜 𝓡 None None name
+    (code.unfolded 𝓤 𝓛.H 𝓜 𝓡 wired) (λ κ b o. id⊢ 𝓤 _)

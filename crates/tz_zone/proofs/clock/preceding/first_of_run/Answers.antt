@@ -1,4 +1,4 @@
--- The type at the place is that of the run.
+-- The type at the position is that of the run.
 use Rattle.tz_zone.proofs.clock.preceding.first_of_run.Goals as goal
 
 pub returns-clause-types : goal.returns-clause-types

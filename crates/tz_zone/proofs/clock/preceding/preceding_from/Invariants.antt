@@ -1,14 +1,14 @@
--- The walk has come to an instant that lies at the place. After all transitions no change is left after the seam.
+-- The walk has come to an instant that lies at the position. After all transitions no change is left after the seam.
 use Rattle.std.proofs.Common.{ℤ}
 use Rattle.tz_zone.specs.Runs.{IsWalkedDown, HasNoneAfterSeam}
-use Rattle.tz_zone.specs.ZoneSeen.{zone_seen}
+use Rattle.tz_zone.specs.ZoneOfData.{zone_of_data}
 use Rattle.tz_zone.proofs.clock.preceding.preceding_from.Given as goal
 
-abbrev pub invariant-loop-place : goal.invariant-loop-place
-invariant-loop-place l = record {
-  walked : (last : ℤ) × IsWalkedDown (zone_seen l.transitions l.parts) l.unix_time last l.place;
-  seam : HasNoneAfterSeam (zone_seen l.transitions l.parts) l.place l.unix_time;
+abbrev pub invariant-loop-position : goal.invariant-loop-position
+invariant-loop-position l = record {
+  walked : (last : ℤ) × IsWalkedDown (zone_of_data l.zone) l.unix_time last l.position;
+  seam : HasNoneAfterSeam (zone_of_data l.zone) l.position l.unix_time;
 }
 
-abbrev pub decreases-loop-place : goal.decreases-loop-place
-decreases-loop-place l = l.place
+abbrev pub decreases-loop-position : goal.decreases-loop-position
+decreases-loop-position l = l.position

@@ -2,19 +2,21 @@
 use Rattle.std.proofs.Common.{◌≢◌, ◌∙◌, inl, inr, ap, [], length}
 use Rattle.std.proofs.lemmas.Int.{to_z-of_z}
 use mir.Syntax.{w64}
-use Rattle.tz_zone.specs.ZoneSeen.{zone_seen}
+use Rattle.tz_zone.specs.ZoneOfData.{zone_of_data}
 use Rattle.tz_zone.proofs.SegmentTypes.{match_none}
 use Rattle.tz_zone.proofs.InstantsWithLeapTime.{no_type_refused}
 use Rattle.tz_zone.proofs.clock.segment.clock_segment_at.Goals as goal
 
 pub returns-in_default-clause-at : goal.returns-in_default-clause-at
 returns-in_default-clause-at g c =
-    let list = g.V.Transitions.list c.args.view.now in
-    let some : list ≢ [] = λ none. c.if-len-eq0.false (c.len.ensures ∙ ap length none) in
+    let z = zone_of_data c.args.zone.now in
+    let count = c.len.ensures ∙ ap length c.requires.view in
+    let some : z.transitions ≢ [] = λ none. c.if-len-eq0.false (count ∙ ap length none) in
     let found = rw (to_z-of_z w64 c.args.unix_time c.ranges.unix_time) at c.undefined_segment.ensures in
     record {
       within = found.within;
-      holds = λ v low high. match_none c.undefined_segment.result.local_time_type _ _ found.local_time_type (no_type_refused (zone_seen list c.args.parts) some v (found.refused v low high));
+      holds = λ v low high. match_none c.undefined_segment.result.local_time_type _ _ found.local_time_type
+          (no_type_refused z some v (found.refused v low high));
     }
 
 pub returns-in_default-clause-ends : goal.returns-in_default-clause-ends

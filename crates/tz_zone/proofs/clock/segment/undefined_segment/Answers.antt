@@ -21,5 +21,6 @@ returns-clause-last c =
     let same : last +ℤ pos 1 -ℤ pos 1 ≡ last = omega (arith, ints) in
     rw (to_z-of_z w64 last fits) (λ not_greatest. rw same (
       c.last_before_start.ensures.before last (omega (arith, ints)),
-      c.last_before_start.ensures.begun (by_lt_z last (pos 9223372036854775807) (λ h. h) (λ h. absurd (not_greatest (omega (arith, ints, h, high))))),
+      c.last_before_start.ensures.begun (by_lt_z last (pos 9223372036854775807) (λ h. h)
+          (λ h. absurd (not_greatest (omega (arith, ints, h, high))))),
     ))

@@ -6,7 +6,8 @@ use mir.Syntax.{w64}
 use Rattle.tz_zone.proofs.clock.window_types.type_through.Goals as goal
 
 -- what holds of an option at each instant
-through : {X : Type 0} (o : Option X) (from until : ℤ) (P : ℤ → Type 0) (Q : ℤ → X → Type 0) → ((v : ℤ) → from ≤ℤ v → v ≤ℤ until → MatchOption o (P v) (Q v))
+through : {X : Type 0} (o : Option X) (from until : ℤ) (P : ℤ → Type 0) (Q : ℤ → X → Type 0)
+    → ((v : ℤ) → from ≤ℤ v → v ≤ℤ until → MatchOption o (P v) (Q v))
     → IfSome o (λ x. (v : ℤ) → from ≤ℤ v → v ≤ℤ until → Q v x)
 through (Some x) from until P Q holds = holds
 through None from until P Q holds = tt
@@ -16,5 +17,14 @@ returns c =
     let u = c.args.unix_time in
     let found = c.after_table-segment.result in
     let segment = rw (to_z-of_z w64 u c.ranges.unix_time) at c.after_table-segment.ensures in
-    let over : c.args.high ≤ℤ found.last = omega (arith, ints, c.if-segment-high.false, to_z-of_z w64 found.last (search rules), to_z-of_z w64 c.args.high c.ranges.high) in
-    through found.local_time_type u c.args.high _ _ (λ v from to. segment.holds v (omega (arith, ints, segment.within.0, from)) (omega (arith, ints, to, over)))
+    let over : c.args.high ≤ℤ found.last =
+    omega (
+      arith,
+      ints,
+      c.if-segment-high.false,
+      to_z-of_z w64 found.last (search rules),
+      to_z-of_z w64 c.args.high
+          c.ranges.high,
+    ) in
+    through found.local_time_type u c.args.high _ _
+    (λ v from to. segment.holds v (omega (arith, ints, segment.within.0, from)) (omega (arith, ints, to, over)))

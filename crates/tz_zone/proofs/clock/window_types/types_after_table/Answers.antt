@@ -8,7 +8,15 @@ pub returns-then-high-first-clause-types : goal.returns-then-high-first-clause-t
 returns-then-high-first-clause-types c = λ v from to.
     let first = c.after_table-first.result in
     let segment = rw (to_z-of_z w64 c.args.low c.ranges.low) at c.after_table-first.ensures in
-    let over : c.args.high ≤ℤ first.last = omega (arith, ints, c.if-high-first.true, to_z-of_z w64 first.last (search rules), to_z-of_z w64 c.args.high c.ranges.high) in
+    let over : c.args.high ≤ℤ first.last =
+    omega (
+      arith,
+      ints,
+      c.if-high-first.true,
+      to_z-of_z w64 first.last (search rules),
+      to_z-of_z w64 c.args.high
+          c.ranges.high,
+    ) in
     rw c.in-Some.is at segment.holds v (omega (arith, ints, segment.within.0, from)) (omega (arith, ints, to, over))
 
 pub returns-in-Some-type_through-clause-types : goal.returns-in-Some-type_through-clause-types
@@ -22,6 +30,7 @@ returns-in-Some-type_through-clause-types c =
     rw (last_is, jump_is) (
       omega (arith, ints, segment.within.1),
       omega (arith, ints, ends),
-      (λ v from until. rw c.in-Some.is at segment.holds v (omega (arith, ints, segment.within.0, from)) (omega (arith, ints, until))),
+      (λ v from until. rw c.in-Some.is at segment.holds v (omega (arith, ints, segment.within.0, from))
+          (omega (arith, ints, until))),
       rw (last_is, jump_is, high_is) at c.in-Some-type_through.ensures,
     )

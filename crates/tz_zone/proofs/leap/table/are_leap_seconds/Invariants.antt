@@ -4,4 +4,4 @@ use Rattle.tz_zone.specs.ValidZone.{FollowsAt}
 use Rattle.tz_zone.proofs.leap.table.are_leap_seconds.Given as goal
 
 abbrev pub invariant-loop-i : goal.invariant-loop-i
-invariant-loop-i l = (place : ℕ) → place < l.i → FollowsAt l.leap_seconds place
+invariant-loop-i l = (index : ℕ) → index < l.i → FollowsAt l.leap_seconds index

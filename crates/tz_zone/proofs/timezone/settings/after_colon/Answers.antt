@@ -5,4 +5,5 @@ use Rattle.tz_zone.proofs.timezone.settings.after_colon.Goals as goal
 use Rattle.tz_zone.specs.Bytes.{colon}
 
 pub returns : goal.returns
-returns c = bare_text colon c.args.text.now c.strip_prefix.result (strip_prefix_char colon c.args.text.now c.strip_prefix.result c.strip_prefix.ensures.cases (omega arith))
+returns c = bare_text colon c.args.text.now c.strip_prefix.result
+    (strip_prefix_char colon c.args.text.now c.strip_prefix.result c.strip_prefix.ensures.cases (omega arith))

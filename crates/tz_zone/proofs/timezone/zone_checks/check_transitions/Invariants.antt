@@ -1,7 +1,8 @@
 -- The transitions so far name types and rise.
 use Rattle.std.proofs.Common.{ℕ, ◌<◌}
-use Rattle.tz_zone.specs.ValidZone.{HasTypeAtPlace, RisesAtPlace}
+use Rattle.tz_zone.specs.ValidZone.{HasTypeAtIndex, RisesAtIndex}
 use Rattle.tz_zone.proofs.timezone.zone_checks.check_transitions.Given as goal
 
 abbrev pub invariant-loop-i : goal.invariant-loop-i
-invariant-loop-i l = (place : ℕ) → place < l.i → HasTypeAtPlace l.transitions l.types place × RisesAtPlace l.transitions place
+invariant-loop-i l = (index : ℕ) → index < l.i → HasTypeAtIndex l.transitions l.types index
+    × RisesAtIndex l.transitions index

@@ -11,4 +11,10 @@ pub returns-in-Ok-clause-err : goal.returns-in-Ok-clause-err
 returns-in-Ok-clause-err c =
     let v = c.args.unix_leap_time in
     let effect = rw (to_z-of_z w64 v c.ranges.unix_leap_time) at c.in-Ok.ensures.ok in
-    IfErr-weaker c.find_local_time_type.result _ _ (λ e none. (none.0, no_rule_type_at c.args.leap_seconds.now (rule_seen c.args.rule) v c.in-Ok.unix_time effect (λ t type. none.1 t (rw (to_z-of_z w64 c.in-Ok.unix_time (search rules)) type)))) c.find_local_time_type.ensures.err
+    IfErr-weaker c.find_local_time_type.result _ _
+    (λ e none. (
+      none.0,
+      no_rule_type_at c.args.leap_seconds.now (rule_seen c.args.rule) v c.in-Ok.unix_time effect
+          (λ t type. none.1 t (rw (to_z-of_z w64 c.in-Ok.unix_time (search rules)) type)),
+    ))
+    c.find_local_time_type.ensures.err

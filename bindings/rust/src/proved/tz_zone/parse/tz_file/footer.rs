@@ -7,7 +7,8 @@ use crate::proved::tz_rule::timezone::TransitionRule;
 use crate::proved::tz_zone::parse::tz_string::parse_posix_tz;
 use core::str;
 
-/// Whether the first and the last byte are line feeds. A single line feed is both, and is a footer without a text.
+/// Whether the first and the last byte are line feeds. A single line feed is both, and is a footer
+/// without a text.
 fn is_between_line_feeds(footer: &[u8]) -> bool {
     footer.first() == Some(&b'\n') && footer.last() == Some(&b'\n')
 }

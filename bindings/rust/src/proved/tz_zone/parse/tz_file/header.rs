@@ -1,14 +1,106 @@
 // Generated from crates/tz_zone/src/parse/tz_file/header.rt by bindings/erase: its contracts are cut. Change that file instead.
-//! The header before a block. (RFC 8536, section 3.1)
+//! Headers of a file, and numbers in it, whose most significant byte comes first. (RFC 8536,
+//! section 3.1)
 
-use super::number::count_at;
-use super::version::is_version;
+use super::frame::Unit;
 use crate::proved::tz_base::error::parse::{ParseDataError, TzFileError};
+use crate::proved::tz_zone::leap::LeapSecond;
+use crate::proved::tz_zone::leap::table::is_plain_table;
+
+/// The four bytes at a position.
+fn four_at(bytes: &[u8], at: usize) -> [u8; 4] {
+    let four = &bytes[at..at + 4];
+    [four[0], four[1], four[2], four[3]]
+}
+
+/// The eight bytes at a position.
+fn eight_at(bytes: &[u8], at: usize) -> [u8; 8] {
+    // One slice, so that the bounds are checked once.
+    let eight = &bytes[at..at + 8];
+    [
+        eight[0], eight[1], eight[2], eight[3], eight[4], eight[5], eight[6], eight[7],
+    ]
+}
+
+/// The count at a position.
+pub(super) fn count_at(bytes: &[u8], at: usize) -> u32 {
+    u32::from_be_bytes(four_at(bytes, at))
+}
+
+/// The signed number of four bytes at a position.
+pub(super) fn signed_at(bytes: &[u8], at: usize) -> i32 {
+    i32::from_be_bytes(four_at(bytes, at))
+}
+
+/// The signed number of eight bytes at a position.
+fn long_signed_at(bytes: &[u8], at: usize) -> i64 {
+    i64::from_be_bytes(eight_at(bytes, at))
+}
+
+/// The time at a position.
+pub(super) fn time_at(size: TimeSize, bytes: &[u8], at: usize) -> i64 {
+    match size {
+        TimeSize::Four => i64::from(signed_at(bytes, at)),
+        TimeSize::Eight => long_signed_at(bytes, at),
+    }
+}
+
+/// How many bytes a time of a block has.
+#[derive(Clone, Copy)]
+pub(super) enum TimeSize {
+    /// Four bytes, in the first block, which is all that version 1 has.
+    Four,
+    /// Eight bytes, in the second block, which later versions add.
+    Eight,
+}
+
+impl TimeSize {
+    /// How many bytes one time has.
+    pub(super) const fn len(self) -> usize {
+        match self {
+            TimeSize::Four => 4,
+            TimeSize::Eight => 8,
+        }
+    }
+
+    /// How many bytes a number of times has.
+    pub(super) const fn times_len(self, count: u32) -> u64 {
+        match self {
+            TimeSize::Four => count as u64 * 4,
+            TimeSize::Eight => count as u64 * 8,
+        }
+    }
+
+    /// How many bytes a number of leap seconds has, each a time and a correction of four bytes.
+    pub(super) const fn leaps_len(self, count: u32) -> u64 {
+        match self {
+            TimeSize::Four => count as u64 * 8,
+            TimeSize::Eight => count as u64 * 12,
+        }
+    }
+}
+
+/// Whether the byte is that of a version that is read. The byte of version 1 is 0.
+pub(super) fn is_version(byte: u8) -> bool {
+    matches!(byte, 0 | b'2' | b'3' | b'4')
+}
+
+/// Whether the version of a unit allows an extended TZ string after it. (RFC 8536, section 3.3.1)
+pub(crate) fn is_extended(unit: &Unit<'_>) -> bool {
+    unit.version == b'3' || unit.version == b'4'
+}
+
+/// Whether a block of this version may hold these leap seconds: before version 4 their table
+/// neither has a truncated start nor expires.
+pub(crate) fn may_hold(version: u8, leap_seconds: &[LeapSecond]) -> bool {
+    version == b'4' || is_plain_table(leap_seconds)
+}
 
 /// How many bytes a header has.
 pub(super) const HEADER_LEN: usize = 44;
 
-/// The six counts of a header: how many indicators of both kinds, leap seconds, transitions, types and name bytes the block has.
+/// The six counts of a header: how many indicators of both kinds, leap seconds, transitions, types
+/// and name bytes the block has.
 #[derive(Clone, Copy)]
 pub(super) struct Counts {
     pub(super) ut_local: u32,

@@ -1,19 +1,15 @@
 // Generated from crates/tz_zone/src/parse/tz_string/rule_text.rt by bindings/erase: its contracts are cut. Change that file instead.
-//! The text of a rule: a name and an offset, or two of each, and the start and the end of daylight saving time (the switches). (POSIX.1-2017, Base
-//! Definitions, 8.3)
+//! The text of a rule: a name and an offset, or two of each, and the start and the end of daylight
+//! saving time (the switches). (POSIX.1-2017, Base Definitions, 8.3)
 
-use super::expect_byte::expect_byte;
-use super::name::read_name;
-use super::offset::{read_daylight_offset, read_offset};
-use super::start_and_end::read_switches;
-use super::time::WrittenTime;
+use super::day_time::{WrittenTime, read_switches};
+use super::parts::{expect_byte, read_daylight_offset, read_name, read_offset};
 use crate::proved::tz_base::error::TzError;
 use crate::proved::tz_base::error::parse::TzStringError;
 use crate::proved::tz_base::error::timezone::LocalTimeTypeError;
 use crate::proved::tz_rule::timezone::{AlternateTime, LocalTimeType, TransitionRule};
 
 /// The daylight name, its offset, and the switches after a comma.
-#[inline(always)]
 fn read_daylight(text: &[u8]) -> Result<(&[u8], Option<WrittenTime>, &[u8]), TzStringError> {
     let (name, rest) = read_name(text)?;
     if rest.is_empty() {
@@ -58,8 +54,8 @@ fn read_text(text: &[u8], extended: bool) -> Result<TransitionRule, TzError> {
 
 /// The rule that a TZ string denotes. (POSIX.1-2017, Base Definitions, 8.3)
 ///
-/// An extended string may have signed day times, of at most 167 hours, 59 minutes and 59 seconds either way. (RFC 8536, section 3.3.1)
-#[inline(always)]
+/// An extended string may have signed day times, of at most 167 hours, 59 minutes and 59 seconds
+/// either way. (RFC 8536, section 3.3.1)
 pub fn parse_posix_tz(text: &[u8], extended: bool) -> Result<TransitionRule, TzError> {
     read_text(text, extended)
 }

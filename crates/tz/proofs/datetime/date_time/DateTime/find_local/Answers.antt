@@ -1,5 +1,11 @@
--- The fields that are searched for are those of the call.
+-- The zone that is searched is that of the call, and so are the fields.
+use Rattle.std.proofs.Common.{subst}
+use Rattle.std.specs.Prelude.{⊤}
+use Rattle.tz_zone.specs.Table.{Zone}
+use Rattle.tz.specs.Outcomes.{IsOutcome}
 use Rattle.tz.proofs.datetime.date_time.DateTime.find_local.Goals as goal
 
-pub returns-clause-err : goal.returns-clause-err
-returns-clause-err g c = rw c.fields.ensures.value at c.find_fields.ensures.outcome.err
+pub returns-clause-outcome : goal.returns-clause-outcome
+returns-clause-outcome g c =
+    let outcome = rw c.fields.ensures.value at c.find_fields.ensures.outcome in
+    subst (λ (z : Zone). IsOutcome (λ e. e) ⊤ z c.args.local c.find_fields.result) c.plain.ensures outcome

@@ -1,5 +1,15 @@
--- The fields that are searched for are those of the local time.
+-- The zone that is searched is that of the call, and so are the fields and the fault.
+use Rattle.std.proofs.Common.{subst, Err}
+use Rattle.std.specs.Prelude.{Result}
+use Rattle.tz_base.specs.declared.error.tz_error.TzError.{TzError}
+use Rattle.tz_zone.specs.Table.{Zone}
+use Rattle.tz.specs.Outcomes.{IsOutcome}
+use Rattle.tz.specs.declared.datetime.found.FoundDateTimeListRefMut.{FoundDateTimeListRefMut}
 use Rattle.tz.proofs.datetime.date_time.DateTime.find_n_local.Goals as goal
 
-pub returns-in-Err-clause-err : goal.returns-in-Err-clause-err
-returns-in-Err-clause-err c = rw c.fields.ensures.value at c.in-Err.ensures.outcome.err
+pub returns-in-Err-clause-outcome : goal.returns-in-Err-clause-outcome
+returns-in-Err-clause-outcome c =
+    let outcome = rw c.fields.ensures.value at c.in-Err.ensures.outcome in
+    let refused : Result FoundDateTimeListRefMut TzError = Err c.in-Err.refused.fault in
+    subst (λ (z : Zone). IsOutcome (λ e. e) ⊥ z c.args.local refused) c.plain.ensures
+    (record { valid = tt; made = tt; promised = outcome.promised; err = outcome.err })

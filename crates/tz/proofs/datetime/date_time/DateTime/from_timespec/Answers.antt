@@ -1,22 +1,20 @@
--- The zone's clock shows the date time, or its lookup is refused, or the year is out of range.
-use Rattle.std.proofs.Common.{inl, inr, rules}
+-- The zone that is looked up is that of the call.
+use Rattle.std.proofs.Common.{subst}
+use Rattle.std.specs.Prelude.{IfErr, IfOk}
 use Rattle.std.proofs.lemmas.Int.{to_z-of_z}
-use Rattle.std.proofs.lemmas.Result.{err_from_is_err_and, IfErr-weaker, IfOk-weaker}
 use mir.Syntax.{w64}
+use Rattle.tz_zone.specs.Table.{Zone}
+use Rattle.tz.specs.DateTimes.{IsClockFault, ShowsByClock}
 use Rattle.tz.proofs.datetime.date_time.DateTime.from_timespec.Goals as goal
-
-pub returns-in_err-local_time_type-clause-err : goal.returns-in_err-local_time_type-clause-err
-returns-in_err-local_time_type-clause-err c =
-    let p = err_from_is_err_and c.from_residual.result c.from_residual.ensures.1 in
-    rw (p.1, p.2) (inr (inl (search rules, rw (to_z-of_z w64 c.args.unix_time c.ranges.unix_time) at c.in_err-local_time_type.ensures.err)))
 
 pub returns : goal.returns
 returns c =
-    let fits = to_z-of_z w64 c.args.unix_time c.ranges.unix_time in
-    let found = rw fits at c.in_ok-local_time_type.ensures.ok in
-    let t = c.in_ok-local_time_type.local_time_type.now in
+    let result = c.from_timespec.result in
+    let u = c.args.unix_time in
+    let n = c.args.nanoseconds in
+    let shown = rw (to_z-of_z w64 u c.ranges.unix_time) at c.from_timespec.ensures in
     record {
-      ok = IfOk-weaker c.shown_by.result _ _ (λ d h. (t, found, rw fits at h)) c.shown_by.ensures.ok;
-      reads = search rules;
-      err = IfErr-weaker c.shown_by.result _ _ (λ e h. inr (inr (h.0, search rules, (t, found, rw fits at h.1)))) c.shown_by.ensures.err;
+      ok = subst (λ (z : Zone). IfOk result (ShowsByClock z u n)) c.plain.ensures shown.ok;
+      reads = shown.reads;
+      err = subst (λ (z : Zone). IfErr result (IsClockFault z u n)) c.plain.ensures shown.err;
     }

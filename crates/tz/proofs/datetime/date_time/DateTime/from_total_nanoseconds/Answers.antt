@@ -11,6 +11,8 @@ returns c =
     let parts = rw (to_z-of_z w128 c.args.total_nanoseconds c.ranges.total_nanoseconds) at t.ensures.found in
     let same = to_z-of_z w64 t.unix_time (search rules) in
     record {
-      ok = IfOk-weaker c.from_timespec.result _ _ (λ d h. (t.unix_time, t.nanoseconds, parts, rw same at h)) c.from_timespec.ensures.ok;
-      err = IfErr-weaker c.from_timespec.result _ _ (λ e h. inr (t.unix_time, t.nanoseconds, parts, rw same at h)) c.from_timespec.ensures.err;
+      ok = IfOk-weaker c.from_timespec.result _ _ (λ d h. (t.unix_time, t.nanoseconds, parts, rw same at h))
+          c.from_timespec.ensures.ok;
+      err = IfErr-weaker c.from_timespec.result _ _ (λ e h. inr (t.unix_time, t.nanoseconds, parts, rw same at h))
+          c.from_timespec.ensures.err;
     }

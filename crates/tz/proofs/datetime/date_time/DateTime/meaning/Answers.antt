@@ -1,7 +1,16 @@
--- The fields that are searched for are those of the call.
+-- The zone that is searched is that of the call, and so are the fields.
+use Rattle.std.proofs.Common.{subst}
 use Rattle.std.proofs.lemmas.Int.{to_z-of_z}
 use mir.Syntax.{w32}
+use Rattle.tz_base.specs.declared.fields.Fields.{Fields}
+use Rattle.tz_base.specs.Fields.{fields_of}
+use Rattle.tz_zone.specs.Table.{Zone}
+use Rattle.tz.specs.Outcomes.{IsOutcome}
 use Rattle.tz.proofs.datetime.date_time.DateTime.meaning.Goals as goal
 
-pub returns-clause-err : goal.returns-clause-err
-returns-clause-err c = rw (c.new-fields.ensures, to_z-of_z w32 c.args.year c.ranges.year) at c.meaning_in.ensures.outcome.err
+pub returns-clause-outcome : goal.returns-clause-outcome
+returns-clause-outcome c =
+    let f : Fields = fields_of c.args.year c.args.month c.args.month_day c.args.hour c.args.minute c.args.second
+    c.args.nanoseconds in
+    let outcome = rw (c.new-fields.ensures, to_z-of_z w32 c.args.year c.ranges.year) at c.meaning_in.ensures.outcome in
+    subst (λ (z : Zone). IsOutcome (λ e. e) ⊥ z f c.meaning_in.result) c.plain.ensures outcome

@@ -1,5 +1,10 @@
--- The fields that are searched for are those of the call.
+-- The zone that is searched is that of the call, and so are the fields.
+use Rattle.std.proofs.Common.{subst}
+use Rattle.tz_zone.specs.Table.{Zone}
+use Rattle.tz.specs.Outcomes.{IsOutcome}
 use Rattle.tz.proofs.datetime.date_time.DateTime.meaning_local.Goals as goal
 
-pub returns-clause-err : goal.returns-clause-err
-returns-clause-err c = rw c.fields.ensures.value at c.meaning_in.ensures.outcome.err
+pub returns-clause-outcome : goal.returns-clause-outcome
+returns-clause-outcome c =
+    let outcome = rw c.fields.ensures.value at c.meaning_in.ensures.outcome in
+    subst (λ (z : Zone). IsOutcome (λ e. e) ⊥ z c.args.local c.meaning_in.result) c.plain.ensures outcome

@@ -8,7 +8,7 @@ use Rattle.tz_query.specs.Answers.{IsAnswer}
 use Rattle.tz_query.specs.Lines.{ended}
 use Rattle.tz_query.specs.Outputs.{Adds}
 use Rattle.tz_query.specs.declared.query.lines.Query.TheVariants.{Time, Search, Meeting}
-use Rattle.tz_query.proofs.LineFronts.{first_line_to_place}
+use Rattle.tz_query.proofs.LineFronts.{first_line_to_position}
 use Rattle.tz_query.proofs.query.answers.Answers.answer_any_line.Goals.{in-Time+in_ok-answer_any_time-in-Time, in-Search+in_ok-answer_any_search-in-Search, in-Meeting+in_ok-answer_meeting-in-Meeting}
 use Rattle.tz_query.proofs.query.answers.Answers.answer_any_line.Goals as goal
 
@@ -17,7 +17,7 @@ returns-in_default-clause-answer g c =
     let (line, first) = c.after_line.ensures in (
       line,
       codes "E Line" ∷ [],
-      first_line_to_place _ _ _ first,
+      first_line_to_position _ _ _ first,
       inr (λ query. c.in_default.ensures.none line _ query first, refl),
       record { zone_is = refl; sound = λ s. s; text_is = c.in_ok-push_error.ensures },
     )
@@ -25,10 +25,12 @@ returns-in_default-clause-answer g c =
 pub returns-clause-answer : goal.returns-clause-answer
 returns-clause-answer g c =
     let (line, first, is_query) = c.in-Some.ensures.some in
-    let answered : (answer : List (List ℕ)) × IsAnswer (zone_of c.args.self.now.zone) line answer × Adds c.args.self.now c.match-query.self (ended answer) = elim c.match-query.branch [
+    let answered : (answer : List (List ℕ)) × IsAnswer (zone_of c.args.self.now.zone) line answer
+    × Adds c.args.self.now c.match-query.self (ended answer) = elim c.match-query.branch [
       | in-Time+in_ok-answer_any_time-in-Time w ↦
           let query = w.in-Time in
-          let (answer, is, adds) = rw (to_z-of_z w64 query.unix_time (search rules)) at w.in_ok-answer_any_time-in-Time.ensures in
+          let (answer, is, adds) = rw (to_z-of_z w64 query.unix_time
+          (search rules)) at w.in_ok-answer_any_time-in-Time.ensures in
           rw w.self-is (answer, inl (Time query.unix_time query.nanoseconds, rw query.is at is_query, is), adds)
       | in-Search+in_ok-answer_any_search-in-Search w ↦
           let query = w.in-Search in
@@ -39,4 +41,4 @@ returns-clause-answer g c =
           let (answer, is, adds) = w.in_ok-answer_meeting-in-Meeting.ensures in
           rw w.self-is (answer, inl (Meeting query.count query.fields, rw query.is at is_query, is), adds)
     ] in
-    (line, answered.0, first_line_to_place _ _ _ first, answered.1, answered.2)
+    (line, answered.0, first_line_to_position _ _ _ first, answered.1, answered.2)

@@ -9,4 +9,6 @@ use Rattle.tz_query.proofs.query.answers.Answers.answer_meeting.Given as goal
 
 abbrev pub invariant-loop-weeks : goal.invariant-loop-weeks
 invariant-loop-weeks g l =
-    (weeks : List (List (List ℕ))) × (length weeks ≡ l.weeks) × AreWeekAnswers (zone_of l.initial.self.zone) l.first 0 weeks × Adds l.initial.self l.self (flat_map ended weeks)
+    (weeks : List (List (List ℕ))) × (length weeks ≡ l.weeks)
+    × AreWeekAnswers (zone_of l.initial.self.zone) l.first 0 weeks
+    × Adds l.initial.self l.self (flat_map ended weeks)

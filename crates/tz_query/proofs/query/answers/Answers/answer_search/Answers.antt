@@ -5,10 +5,13 @@ use Rattle.std.proofs.lemmas.Result.{IfOk-weaker}
 use mir.Syntax.{w64}
 use mir.Val.{SFits}
 use Rattle.tz_zone.specs.Clock.{IsClock}
+use Rattle.tz_zone.specs.Table.{Zone}
+use Rattle.tz_zone.specs.WindowTypes.{AreTypesIn}
 use Rattle.tz_zone.specs.ZoneRef.{zone_of}
+use Rattle.tz_zone.specs.declared.clock.window_types.WindowTypes.{WindowTypes}
 use Rattle.tz.specs.Entries.{AreEntries, Shown}
+use Rattle.tz.specs.Windows.{IsSearchable}
 use Rattle.tz.proofs.EntryWalks.{entries_once}
-use Rattle.tz_query.specs.LineMeanings.{IsMeaningOf}
 use Rattle.tz_query.specs.Nanoseconds.{with_nanoseconds}
 use Rattle.tz_query.specs.declared.query.lines.Query.TheVariants.{Search}
 use Rattle.tz_query.proofs.AddedText.{answered_after}
@@ -24,33 +27,71 @@ returns-then-has g c =
     let u = r -ℤ t.ut_offset in
     let low = c.window_of-low.result.0 in
     let high = c.window_of-low.result.1 in
-    let window = rw (to_z-of_z w64 r fits) at c.window_of-low.ensures in
+    let window = subst (λ (x : Zone). IsSearchable x r low high) c.plain.ensures
+    (rw (to_z-of_z w64 r fits) at c.window_of-low.ensures.searchable) in
     let within = rw (to_z-of_z w64 low (search rules), to_z-of_z w64 high (search rules)) at (c.if-has.ensures refl) in
-    let all : AreEntries (IsClock z) r (Shown u t ∷ []) = entries_once z window.sound.leap_seconds_are r low high t u window.order window.offsets (λ v from until. c.requires v (omega (arith, ints, within.0, from)) (omega (arith, ints, within.1, until))) refl in
+    let all : AreEntries (IsClock z) r (Shown u t ∷ []) =
+    entries_once z window.sound.leap_seconds_are r low high t u window.order window.offsets
+    (λ v from until. c.requires v (omega (arith, ints, within.0, from)) (omega (arith, ints, within.1, until)))
+    refl in
     IfOk-weaker c.push_shown.result _ _
-    (λ done adds. shown_once c.args.fields.now c.args.nanoseconds.now r t u c.in-Ok.ensures.ok (sym c.reading-reading.ensures.value) all (record { zone_is = refl; sound = λ s. s; text_is = adds u }))
+    (λ done adds. shown_once c.args.fields.now c.args.nanoseconds.now r t u c.in-Ok.ensures.ok
+    (sym c.reading-reading.ensures.value) all (record { zone_is = refl; sound = λ s. s; text_is = adds u }))
     c.push_shown.ensures.text
 
-pub push_meaning-requires : goal.push_meaning-requires
-push_meaning-requires g c =
+pub answer_by_types-requires : goal.answer_by_types-requires
+answer_by_types-requires g c =
     let r = c.reading-reading.result in
     let fits : SFits w64 r = record { sfits = c.reading-reading.type_inv } in
-    let (es, are, of) = rw (to_z-of_z w64 r fits) at c.type_in_window.ensures.means in
-    record { valid = c.in-Ok.ensures.ok; means = (es, subst (λ x. AreEntries (IsClock (zone_of c.type_in_window.new.self.zone)) x es) c.reading-reading.ensures.value are, of) }
+    let low = c.window_of-low.result.0 in
+    let high = c.window_of-low.result.1 in
+    let r_is = to_z-of_z w64 r fits in
+    let low_is = to_z-of_z w64 low (search rules) in
+    let high_is = to_z-of_z w64 high (search rules) in
+    let kept = c.type_in_window.ensures.kept in
+    let here = subst (λ (x : Zone). IsSearchable x r low high) c.plain.ensures
+    (rw r_is at c.window_of-low.ensures.searchable) in
+    let window = subst (λ zone. IsSearchable (zone_of zone) r low high) (sym kept.zone_is) here in
+    let types = rw (low_is, high_is) at c.type_in_window.ensures.types in
+    let position = rw low_is at c.type_in_window.ensures.position in
+    rw (r_is, low_is, high_is)
+    (record {
+      valid = c.in-Ok.ensures.ok;
+      reading = c.reading-reading.ensures.value;
+      searchable = window;
+      types = types;
+      position = position;
+    })
 
 pub returns : goal.returns
 returns g c =
-    let z = zone_of c.type_in_window.new.self.zone in
-    let f = c.args.fields.now in
     let r = c.reading-reading.result in
     let fits : SFits w64 r = record { sfits = c.reading-reading.type_inv } in
+    let low = c.window_of-low.result.0 in
+    let high = c.window_of-low.result.1 in
+    let r_is = to_z-of_z w64 r fits in
+    let low_is = to_z-of_z w64 low (search rules) in
+    let high_is = to_z-of_z w64 high (search rules) in
+    let kept = c.type_in_window.ensures.kept in
+    let here = subst (λ (x : Zone). IsSearchable x r low high) c.plain.ensures
+    (rw r_is at c.window_of-low.ensures.searchable) in
+    let window = subst (λ zone. IsSearchable (zone_of zone) r low high) (sym kept.zone_is) here in
+    let types = rw (low_is, high_is) at c.type_in_window.ensures.types in
+    let z = zone_of c.type_in_window.new.self.zone in
+    let f = c.args.fields.now in
     let nanoseconds = c.args.nanoseconds.now in
     let t = c.in-Some.local_time_type.now in
-    let (es, are, of) = rw (to_z-of_z w64 r fits) at c.in-Some.ensures.means in
-    let (u, is) = subst (IsMeaningOf es) c.in-Some.ensures.once of in
-    let all : AreEntries (IsClock z) r (Shown u t ∷ []) = subst (AreEntries (IsClock z) r) is are in
-    answered_after _ (Search (with_nanoseconds f nanoseconds)) c.push_shown-2.result c.in-Some.ensures.kept
-    (IfOk-weaker c.push_shown-2.result _ _ (λ done adds. shown_once f nanoseconds r t u c.in-Ok.ensures.ok (sym c.reading-reading.ensures.value) all (adds u)) c.push_shown-2.ensures.text)
+    let u = r -ℤ t.ut_offset in
+    let through = subst (λ (x : WindowTypes). AreTypesIn (IsClock z) low high x) c.in-Some.ensures.one types in
+    let all : AreEntries (IsClock z) r (Shown u t ∷ []) =
+    entries_once z window.sound.leap_seconds_are r low high t u window.order window.offsets through refl in
+    answered_after _ (Search (with_nanoseconds f nanoseconds)) c.push_shown-2.result kept
+    (IfOk-weaker c.push_shown-2.result _ _
+    (λ done adds. shown_once f nanoseconds r t u c.in-Ok.ensures.ok (sym c.reading-reading.ensures.value) all (adds u))
+    c.push_shown-2.ensures.text)
 
 pub returns-in_default-type_in_window : goal.returns-in_default-type_in_window
-returns-in_default-type_in_window g c = answered_after _ (Search (with_nanoseconds c.args.fields.now c.args.nanoseconds.now)) c.push_meaning.result c.type_in_window.ensures.kept c.push_meaning.ensures
+returns-in_default-type_in_window g c =
+    answered_after _ (Search (with_nanoseconds c.args.fields.now c.args.nanoseconds.now)) c.answer_by_types.result
+    c.type_in_window.ensures.kept
+    c.answer_by_types.ensures

@@ -16,7 +16,10 @@ returns-in-Some g c =
     let from_is = to_z-of_z w64 c.from-self.result (search rules) ∙ c.from-self.ensures in
     record {
       zone_is = refl;
-      sound = λ was u after before. subst (IsClock z u) (sym c.of.ensures) (subst (λ type. HasTypeOrNone z u type) (sym c.local_time_type.ensures ∙ ap option_copied c.in-Some.is)
-          (c.segment_at-segment.ensures.segment.holds u (subst (λ (x : ℤ). x ≤ℤ u) from_is after) (subst (λ (x : ℤ). u ≤ℤ x) (to_z-of_z w64 c.last-self.result (search rules) ∙ c.last-self.ensures) before)));
+      sound = λ was u after before. subst (IsClock z u) (sym c.of.ensures)
+          (subst (λ type. HasTypeOrNone z u type) (sym c.local_time_type.ensures ∙ ap option_copied c.in-Some.is)
+          (c.segment_at-segment.ensures.segment.holds u (subst (λ (x : ℤ). x ≤ℤ u) from_is after)
+          (subst (λ (x : ℤ). u ≤ℤ x) (to_z-of_z w64 c.last-self.result (search rules) ∙ c.last-self.ensures)
+          before)));
       output_is = refl;
     }

@@ -16,5 +16,6 @@ pub returns-clause-clock : goal.returns-clause-clock
 returns-clause-clock g c =
     let u = c.args.unix_time in
     let lookup = c.find_local_time_type in
-    let kept = subst (λ zone. IfOk lookup.result (λ t. IsClock (zone_of zone) u t.now)) c.follow.ensures.zone_is (rw (to_z-of_z w64 u c.ranges.unix_time) at lookup.ensures.ok) in
+    let kept = subst (λ zone. IfOk lookup.result (λ t. IsClock (zone_of zone) u t.now)) c.follow.ensures.zone_is
+    (rw (to_z-of_z w64 u c.ranges.unix_time) at lookup.ensures.ok) in
     rw c.ok.ensures.value (some_if_ok lookup.result (λ t. IsClock (zone_of c.args.self.now.zone) u t.now) kept)

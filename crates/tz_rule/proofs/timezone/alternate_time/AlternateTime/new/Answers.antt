@@ -11,5 +11,10 @@ returns-in_default-clause-err c =
     let end_time = to_z-of_z w32 c.args.dst_end_time c.ranges.dst_end_time in
     let starts = rw (start_time, end_time, c.of.ensures, c.of-2.ensures) at c.starts-starts.ensures in
     let ends = rw (start_time, end_time, c.of.ensures, c.of-2.ensures) at c.ends-ends.ensures in
-    let range = rw (start_time, end_time, c.of.ensures, c.of-2.ensures) at c.in_ok-check_range.ensures.ok in
-    inr (refl, range, rule_is_inconsistent _ (record { start_is = starts.day; end_is = ends.day }) _ _ starts.table ends.table c.in_default.ensures.none)
+    let range = rw (start_time, end_time, c.of.ensures, c.of-2.ensures) at c.in-Ok.ensures.ok in
+    inr (
+      refl,
+      range,
+      rule_is_inconsistent _ (record { start_is = starts.day; end_is = ends.day }) _ _ starts.table
+          ends.table c.in_default.ensures.none,
+    )

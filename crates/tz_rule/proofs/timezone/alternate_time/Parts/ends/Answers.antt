@@ -7,4 +7,5 @@ use Rattle.tz_rule.proofs.timezone.alternate_time.Parts.ends.Goals as goal
 pub returns-clause-table : goal.returns-clause-table
 unfolding end_table
 returns-clause-table c =
-    (rw c.requires.day at c.of_day.ensures.table) ∙ ap (day_table c.args.self.now.dst_end) (omega (arith, ints, c.requires.range))
+    (rw c.requires.day at c.of_day.ensures.table) ∙ ap (day_table c.args.self.now.dst_end)
+    (omega (arith, ints, c.requires.range))

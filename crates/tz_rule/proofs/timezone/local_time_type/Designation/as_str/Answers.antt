@@ -15,4 +15,5 @@ all_below (suc n) bytes name k d h = designation_byte_below _ ((name (omega arit
 pub from_utf8_unchecked-requires : goal.from_utf8_unchecked-requires
 from_utf8_unchecked-requires c =
     let name = take c.args.self.now.len c.args.self.now.bytes in
-    rw c.from.ensures (IsUtf8-from_ascii name (IsAscii-from_all name (all_below c.args.self.now.len c.args.self.now.bytes c.requires.is_name)))
+    rw c.split_at.ensures.front (IsUtf8-from_ascii name
+    (IsAscii-from_all name (all_below c.args.self.now.len c.args.self.now.bytes c.requires.is_name)))

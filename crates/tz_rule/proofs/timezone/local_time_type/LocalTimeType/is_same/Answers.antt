@@ -15,7 +15,10 @@ returns-then-self-other-2 c =
     elim c.if-self-other.branch [
       | then-self-other w ↦
           let same_bits = w.if-self-other.true in
-          let offset : a.ut_offset ≡ b.ut_offset = omega (arith, ints, to_z-of_z w32 a.ut_offset (search rules), to_z-of_z w32 b.ut_offset (search rules)) in
-          rw (c.word-then-self-other-2.ensures, c.word.ensures, ← c.self.view_is, ← c.other.view_is) (same_type-shown a b c.self.invariant c.other.invariant offset ((Decides-beq a.is_dst b.is_dst).0 (sym w.value-is ∙ c.if-self-other-2.true)))
+          let offset : a.ut_offset ≡ b.ut_offset =
+          omega (arith, ints, to_z-of_z w32 a.ut_offset (search rules), to_z-of_z w32 b.ut_offset (search rules)) in
+          rw (c.word-then-self-other-2.ensures, c.word.ensures, ← c.self.view_is, ← c.other.view_is)
+          (same_type-shown a b c.self.invariant c.other.invariant offset
+          ((Decides-beq a.is_dst b.is_dst).0 (sym w.value-is ∙ c.if-self-other-2.true)))
       | else-self-other w ↦ absurd (w.if-self-other.false (eqb-true _ _ (sym w.value-is ∙ c.if-self-other-2.true)))
     ]

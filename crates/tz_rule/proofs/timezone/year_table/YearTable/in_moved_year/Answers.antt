@@ -8,4 +8,13 @@ pub returns : goal.returns
 unfolding instant_in
 returns c =
     let start = c.moved_year_start-start_of_year.ensures in
-    omega (arith, ints, start.start, start.bound, c.entry.ensures.value, c.entry.ensures.bound, ap (entry c.args.self.now.0) start.kind)
+    omega (
+      arith,
+      ints,
+      start.start,
+      start.bound,
+      c.entry.ensures.value,
+      c.entry.ensures.bound,
+      ap
+          (entry c.args.self.now.0) start.kind,
+    )

@@ -9,8 +9,9 @@ pub returns-clause-table : goal.returns-clause-table
 returns-clause-table c =
     let made = c.loop-week_day.invariant in
     let seconds = to_z-of_z w32 c.args.seconds c.ranges.seconds in
-    day_table-from c.args.day.now c.args.seconds c.loop-week_day.entries c.places-normal.result c.places-leap.result made.size
+    day_table-from c.args.day.now c.args.seconds c.loop-week_day.entries c.year_days-normal.result
+    c.year_days-leap.result made.size
     (λ k below. rw seconds at made.normal_made k (omega arith))
     (λ k below. rw seconds at made.leap_made k (omega arith))
-    c.places-normal.ensures.value
-    c.places-leap.ensures.value
+    c.year_days-normal.ensures.value
+    c.year_days-leap.ensures.value

@@ -8,4 +8,5 @@ use Rattle.tz_rule.proofs.timezone.year_table.YearTable.year_before.Goals as goa
 pub returns-clause-none : goal.returns-clause-none
 returns-clause-none c =
     not_before c.args.self.now.0 c.args.other.now.0 c.args.distance c.requires
-    (λ m below. rw (to_z-of_z w32 c.args.distance c.ranges.distance) at (c.loop-index.invariant m (omega (arith, below, c.loop-index-test.false))))
+    (λ m below. rw (to_z-of_z w32 c.args.distance c.ranges.distance) at (c.loop-index.invariant m
+    (omega (arith, below, c.loop-index-test.false))))

@@ -1,7 +1,11 @@
 -- In none of the years so far does the instant come before the other one at the distance.
-use Rattle.std.proofs.Common.{ℕ, ◌+◌, ◌<◌, pos, ◌+ℤ◌, ◌≤ℤ◌}
+use Rattle.std.proofs.Common.{ℕ, ◌-◌, ◌+◌, ◌<◌, pos, ◌+ℤ◌, ◌≤ℤ◌}
 use Rattle.tz_rule.specs.YearTables.{instant_in}
 use Rattle.tz_rule.proofs.timezone.year_table.YearTable.year_before.Given as goal
 
 abbrev pub invariant-loop-index : goal.invariant-loop-index
-invariant-loop-index l = (m : ℕ) → m < l.index → instant_in l.other.0 (pos (1972 + m) +ℤ l.distance) ≤ℤ instant_in l.self.0 (pos (1972 + m))
+invariant-loop-index l = (m : ℕ) → m < l.index
+    → instant_in l.other.0 (pos (1972 + m) +ℤ l.distance) ≤ℤ instant_in l.self.0 (pos (1972 + m))
+
+abbrev pub decreases-loop-index : goal.decreases-loop-index
+decreases-loop-index l = 29 - l.index

@@ -7,4 +7,10 @@ use Rattle.tz_zone.proofs.parse.tz_file.footer.read_footer.Goals as goal
 pub returns-in-Err-clause-err : goal.returns-in-Err-clause-err
 returns-in-Err-clause-err c =
     let text = c.in_ok-text in
-    inr (text.ensures.ok, (λ none. some_unless_empty text.text.now c.if-is_empty.ensures (text.ensures.value ∙ none)), subst (λ (t : List ℕ). IsTzTextFault c.args.extended t c.in-Err.error) text.ensures.value c.in-Err.ensures.err)
+    inr (
+      text.ensures.ok,
+      (λ none. some_unless_empty text.text.now c.if-is_empty.ensures
+          (text.ensures.value ∙ none)),
+      subst (λ (t : List ℕ). IsTzTextFault c.args.extended t c.in-Err.error)
+          text.ensures.value c.in-Err.ensures.err,
+    )

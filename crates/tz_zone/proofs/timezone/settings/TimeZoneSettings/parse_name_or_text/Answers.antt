@@ -11,7 +11,10 @@ pub returns-in-Some : goal.returns-in-Some
 returns-in-Some g c =
     let bytes = c.in-Some.bytes in
     let settings = c.args.self.now in
-    opened own_zone_of (Ok bytes) c.zone_of_bytes.result (Finds (FnReturnsAt g.F.Fn (reader_of settings)) (directories_of settings) c.args.text.now)
-    (IsNamedOrTextAnswer (FnReturnsAt g.F.Fn (reader_of settings)) (directories_of settings) c.args.text.now) (inr (rw c.in-Some.is at c.in_ok-found.ensures))
-    (opened_bytes own_zone_of c.zone_of_bytes.result (Ok bytes) bytes c.deref.result.now refl c.deref.ensures.value c.zone_of_bytes.ensures)
+    opened own_zone_of (Ok bytes) c.zone_of_bytes.result (Finds (FnReturnsAt g.F.Fn (reader_of settings))
+    (directories_of settings) c.args.text.now)
+    (IsNamedOrTextAnswer (FnReturnsAt g.F.Fn (reader_of settings)) (directories_of settings) c.args.text.now)
+    (inr (rw c.in-Some.is at c.in_ok-found.ensures))
+    (opened_bytes own_zone_of c.zone_of_bytes.result (Ok bytes) bytes c.deref.result.now refl c.deref.ensures.value
+    c.zone_of_bytes.ensures)
     (λ answer is opens. (Ok bytes, is, opens))

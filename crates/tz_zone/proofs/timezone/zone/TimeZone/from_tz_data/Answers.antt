@@ -13,5 +13,7 @@ pub returns-clause-only : goal.returns-clause-only
 returns-clause-only g c = λ zone is.
     let bytes = c.args.bytes.now in
     MatchResult-from_both c.parse_tz_file.result (λ made. own_zone_of made ≡ zone) (λ e. e ≡ Memory alloc_error)
-    (IfOk-weaker c.parse_tz_file.result (λ made. IsTzFile bytes (own_zone_of made)) (λ made. own_zone_of made ≡ zone) (λ made file. denotes_one bytes (own_zone_of made) zone file is) c.parse_tz_file.ensures.ok)
-    (IfErr-weaker c.parse_tz_file.result (IsReadFault bytes) (λ e. e ≡ Memory alloc_error) (λ e fault. refused_for_memory bytes zone e is fault) c.parse_tz_file.ensures.err)
+    (IfOk-weaker c.parse_tz_file.result (λ made. IsTzFile bytes (own_zone_of made)) (λ made. own_zone_of made ≡ zone)
+    (λ made file. denotes_one bytes (own_zone_of made) zone file is) c.parse_tz_file.ensures.ok)
+    (IfErr-weaker c.parse_tz_file.result (IsReadFault bytes) (λ e. e ≡ Memory alloc_error)
+    (λ e fault. refused_for_memory bytes zone e is fault) c.parse_tz_file.ensures.err)

@@ -20,11 +20,26 @@ is_valid t = record {
 }
 
 pub invariant_of-result-clause-sound : goal.invariant_of-result-clause-sound
-invariant_of-result-clause-sound g c = rw (c.new.ensures.items, c.in_ok-local_time_types.ensures.items, c.new-2.ensures.items) (is_valid c.args.local_time_type).table
+invariant_of-result-clause-sound g c = rw (
+  c.new.ensures.items,
+  c.in_ok-local_time_types.ensures.items,
+  c.new-2.ensures.items,
+)
+    (is_valid c.args.local_time_type).table
 
 pub invariant_of-result-clause-valid : goal.invariant_of-result-clause-valid
-invariant_of-result-clause-valid g c = rw (c.new.ensures.items, c.in_ok-local_time_types.ensures.items, c.new-2.ensures.items) (∣ is_valid c.args.local_time_type ∣₁)
+invariant_of-result-clause-valid g c = rw (
+  c.new.ensures.items,
+  c.in_ok-local_time_types.ensures.items,
+  c.new-2.ensures.items,
+)
+    (∣ is_valid c.args.local_time_type ∣₁)
 
 pub invariant_of-result-clause-offsets : goal.invariant_of-result-clause-offsets
 invariant_of-result-clause-offsets g c =
-    rw (c.in_ok-local_time_types.ensures.items, to_z-of_z w32 c.ut_offset-ut_offset.result (search rules), c.ut_offset-ut_offset.ensures.value) (∣ ends_of_type c.args.local_time_type ∣₁)
+    rw (
+      c.in_ok-local_time_types.ensures.items,
+      to_z-of_z w32 c.ut_offset-ut_offset.result
+          (search rules),
+      c.ut_offset-ut_offset.ensures.value,
+    ) (∣ ends_of_type c.args.local_time_type ∣₁)

@@ -1,4 +1,4 @@
--- The zone that is seen through the view is this one.
+-- The view is of the zone's own transitions.
 use Rattle.std.proofs.lemmas.Int.{to_z-of_z}
 use mir.Syntax.{w64}
 use Rattle.tz_zone.specs.ZoneOfData.{zone_of_data}
@@ -8,4 +8,5 @@ use Rattle.tz_zone.proofs.timezone.zone_data.ZoneData.segment_at.Goals as goal
 pub returns-clause-segment : goal.returns-clause-segment
 returns-clause-segment c =
     let u = c.args.unix_time in
-    true_segment (zone_of_data c.args.self.now) u c.clock_segment_at.result (rw (c.new-view.ensures, c.other_parts.ensures, to_z-of_z w64 u c.ranges.unix_time) at c.clock_segment_at.ensures.at)
+    let at = rw (to_z-of_z w64 u c.ranges.unix_time) at c.clock_segment_at.ensures.at in
+    true_segment (zone_of_data c.args.self.now) u c.clock_segment_at.result at

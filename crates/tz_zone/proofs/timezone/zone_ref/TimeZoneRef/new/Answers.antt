@@ -1,16 +1,9 @@
--- A zone keeps the offsets of its own types and rule.
-use Rattle.std.proofs.Common.{rules}
-use Rattle.std.proofs.lemmas.Int.{to_z-of_z}
-use mir.Syntax.{w32}
+-- The plain data has the rule that was lent.
+use Rattle.std.proofs.Common.{ap}
+use Rattle.tz_zone.specs.Table.{Zone}
 use Rattle.tz_zone.proofs.timezone.zone_ref.TimeZoneRef.new.Goals as goal
 
 pub invariant_of-result : goal.invariant_of-result
-invariant_of-result c =
-    let ends = c.offset_range-least_offset in
-    let ok = rw c.lent-rule.ensures at c.in_ok-check_parts.ensures.ok in
-    let least = rw c.lent-rule.ensures at ends.ensures.least in
-    record {
-      sound = ok.table;
-      valid = ∣ ok ∣₁;
-      offsets = rw (to_z-of_z w32 ends.result.0 (search rules), to_z-of_z w32 ends.result.1 (search rules)) (∣ (least, rw c.lent-rule.ensures at ends.ensures.greatest) ∣₁);
-    }
+invariant_of-result c = record {
+  same = ap (λ (z : Zone). z.extra_rule) c.in_ok-plain.ensures.parts;
+}

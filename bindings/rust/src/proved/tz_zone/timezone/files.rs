@@ -1,0 +1,266 @@
+// Generated from crates/tz_zone/src/timezone/files.rt by bindings/erase: its contracts are cut. Change that file instead.
+//! Files of zones: reading one, and looking for one in directories.
+
+use super::TimeZoneSettings;
+use crate::proved::tz_base::error::ReadFault;
+use crate::shim::ArrayString;
+use crate::shim::alloc::{AllocError, Allocator, Global};
+use crate::shim::anyhow;
+use crate::shim::fs::File;
+use crate::shim::io::{self, Read};
+use crate::shim::rt::Files;
+use crate::shim::{String, Vec};
+
+/// How many bytes are read at once. A longer buffer takes longer to clear than a second read of the
+/// longest files of time zones.
+const PIECE: usize = 2_000;
+
+/// The number of the system's error `ENOENT`.
+const NO_SUCH_FILE: i32 = 2;
+
+/// Reads a piece into the beginning of the buffer.
+fn read_piece<I: Read>(input: &mut I, buffer: &mut [u8]) -> Result<usize, ReadFault> {
+    match input.read(buffer) {
+        Ok(count) => Ok(count),
+        Err(error) => Err(ReadFault::Failed(crate::shim::anyhow::Error::from(error))),
+    }
+}
+
+/// Appends a piece. The first one reserves room for this number of bytes.
+fn append<A: Allocator>(
+    bytes: &mut Vec<u8, A>,
+    piece: &[u8],
+    room: usize,
+) -> Result<(), ReadFault> {
+    if bytes.is_empty() {
+        bytes.reserve(room)?;
+    }
+    bytes.extend_from_slice(piece)?;
+    Ok(())
+}
+
+/// Reads the input to its end. Where it is not empty, room for this number of bytes is reserved,
+/// since a growth may copy everything.
+pub fn read_to_end<A: Allocator, I: Read>(
+    alloc: A,
+    input: &mut I,
+    room: usize,
+) -> Result<Vec<u8, A>, ReadFault> {
+    let mut bytes = Vec::new(alloc);
+    let mut buffer = [0; PIECE];
+    for _ in 0..u64::MAX {
+        let count = read_piece(input, &mut buffer)?;
+        if count == 0 {
+            return Ok(bytes);
+        }
+        append(&mut bytes, &buffer[..count], room)?;
+    }
+    Err(ReadFault::Failed(anyhow!("file has no end")))
+}
+
+/// Reads the next piece, and at most this many bytes.
+fn read_piece_up_to<I: Read>(
+    input: &mut I,
+    buffer: &mut [u8; PIECE],
+    most: usize,
+) -> Result<usize, ReadFault> {
+    read_piece(input, &mut buffer[..most])
+}
+
+/// The bytes of the input, read to its end, if there are at most `limit` of them. At most one byte
+/// more than that is read.
+///
+/// [`read_file_up_to`] opens a file and calls this.
+///
+/// # Errors
+///
+/// - [`ReadFault::Failed`] if the input cannot be read, or with a text that says so if it is
+///   longer, after one byte more than the limit was read;
+/// - [`ReadFault::Memory`] if an allocation for its bytes fails.
+pub fn read_up_to<A: Allocator, I: Read>(
+    alloc: A,
+    input: &mut I,
+    limit: usize,
+) -> Result<Vec<u8, A>, ReadFault> {
+    let mut bytes = Vec::new(alloc);
+    let mut buffer = [0; PIECE];
+    for _ in 0..u64::MAX {
+        let left = limit - bytes.len();
+        let count = read_piece_up_to(input, &mut buffer, left.min(PIECE - 1) + 1)?;
+        if count == 0 {
+            return Ok(bytes);
+        }
+        if left < count {
+            return Err(ReadFault::Failed(anyhow!(
+                "file is longer than {limit} bytes"
+            )));
+        }
+        append(&mut bytes, &buffer[..count], 0)?;
+    }
+    Err(ReadFault::Failed(anyhow!("file has no end")))
+}
+
+/// Why a file could not be opened. Most paths of a search have no file, so the system's text of
+/// that error is not looked up.
+pub fn open_fault(error: io::Error) -> ReadFault {
+    if error.raw_os_error() == Some(NO_SUCH_FILE) {
+        return ReadFault::Failed(anyhow!("No such file or directory (os error 2)"));
+    }
+    ReadFault::Failed(crate::shim::anyhow::Error::from(error))
+}
+
+/// The bytes of the file at the path, read to its end.
+///
+/// With the runtime passed in by a closure, this is a reader for
+/// [`TimeZoneSettings`](super::TimeZoneSettings).
+///
+/// # Errors
+///
+/// - [`ReadFault::Failed`] if the file cannot be opened or read, such as a directory;
+/// - [`ReadFault::Memory`] if an allocation for its bytes fails.
+pub fn read_file<R: Files>(rt: &R, alloc: Global, path: &str) -> Result<Vec<u8>, ReadFault> {
+    match File::open(rt, path) {
+        Ok(mut file) => read_to_end(alloc, &mut file, 0),
+        Err(error) => Err(open_fault(error)),
+    }
+}
+
+/// The bytes of the file at the path, read to its end, if there are at most `limit` of them.
+///
+/// So a file that someone else chooses takes no more memory than the limit needs. Files of time
+/// zones take less than 10,000 bytes, so 65,536 are ample.
+///
+/// # Errors
+///
+/// Those of [`read_file`], and [`ReadFault::Failed`] with a text that says so if the file is
+/// longer, after one byte more than the limit was read.
+pub fn read_file_up_to<R: Files>(
+    rt: &R,
+    alloc: Global,
+    limit: usize,
+    path: &str,
+) -> Result<Vec<u8>, ReadFault> {
+    match File::open(rt, path) {
+        Ok(mut file) => read_up_to(alloc, &mut file, limit),
+        Err(error) => Err(open_fault(error)),
+    }
+}
+
+/// How long a path may be that needs no memory: those of the names of the time zone database are
+/// shorter.
+const USUAL_LEN: usize = 96;
+
+/// Whether the name is a path of its own.
+fn is_absolute(name: &str) -> bool {
+    matches!(name.as_bytes(), [b'/', ..])
+}
+
+/// Writes the path of a name in a directory into the room of usual paths, and returns it, or `None`
+/// where the room is too short.
+#[inline(always)]
+fn usual_path<'p>(
+    room: &'p mut ArrayString<USUAL_LEN>,
+    directory: &str,
+    name: &str,
+) -> Option<&'p str> {
+    room.clear();
+    if room.try_push_str(directory).is_err()
+        || room.try_push_str("/").is_err()
+        || room.try_push_str(name).is_err()
+    {
+        return None;
+    }
+    Some(room.as_str())
+}
+
+/// The path of a name in a directory, in memory.
+fn long_path<A: Allocator + Copy>(
+    alloc: A,
+    directory: &str,
+    name: &str,
+) -> Result<String<A>, AllocError> {
+    let mut path = String::with_capacity(alloc, directory.len() + 1 + name.len())?;
+    path.push_str(directory)?;
+    path.push_str("/")?;
+    path.push_str(name)?;
+    Ok(path)
+}
+
+impl<F: Fn(&str) -> Result<Vec<u8>, ReadFault>> TimeZoneSettings<'_, F> {
+    /// What the reader returns for the path.
+    pub(super) fn read(&self, path: &str) -> Result<Vec<u8>, ReadFault> {
+        (self.reader)(path)
+    }
+
+    /// The file at the path, or `None` if it cannot be read. The reader's fault is dropped at once.
+    #[inline(always)]
+    fn read_if_there(&self, path: &str) -> Result<Option<Vec<u8>>, AllocError> {
+        match self.read(path) {
+            Ok(bytes) => Ok(Some(bytes)),
+            Err(ReadFault::Memory(error)) => Err(error),
+            Err(ReadFault::Failed(_)) => Ok(None),
+        }
+    }
+
+    /// The file with the name in the directory, or `None` if it cannot be read.
+    #[inline(always)]
+    fn find_in_directory<A: Allocator + Copy>(
+        &self,
+        alloc: A,
+        room: &mut ArrayString<USUAL_LEN>,
+        directory: &str,
+        name: &str,
+    ) -> Result<Option<Vec<u8>>, AllocError> {
+        if let Some(path) = usual_path(room, directory, name) {
+            return self.read_if_there(path);
+        }
+        let path = long_path(alloc, directory, name)?;
+        self.read_if_there(path.as_str())
+    }
+
+    /// The file with the name in the first of the directories that has it, or `None` where none has
+    /// it.
+    pub(super) fn find_in_directories<A: Allocator + Copy>(
+        &self,
+        alloc: A,
+        name: &str,
+    ) -> Result<Option<Vec<u8>>, AllocError> {
+        let mut room = ArrayString::new();
+        for directory in self.directories {
+            let found = self.find_in_directory(alloc, &mut room, directory, name)?;
+            if let Some(bytes) = found {
+                return Ok(Some(bytes));
+            }
+        }
+        Ok(None)
+    }
+
+    /// The file with the name.
+    pub(super) fn find<A: Allocator + Copy>(
+        &self,
+        alloc: A,
+        name: &str,
+    ) -> Result<Vec<u8>, ReadFault> {
+        if is_absolute(name) {
+            return self.read(name);
+        }
+        let found = self.find_in_directories(alloc, name)?;
+        match found {
+            Some(bytes) => Ok(bytes),
+            None => Err(ReadFault::Failed(anyhow!("file was not found"))),
+        }
+    }
+
+    /// The file with the name, or `None` if it cannot be read. No text is made for an error that
+    /// nobody sees.
+    pub(super) fn find_readable<A: Allocator + Copy>(
+        &self,
+        alloc: A,
+        name: &str,
+    ) -> Result<Option<Vec<u8>>, AllocError> {
+        if !is_absolute(name) {
+            return self.find_in_directories(alloc, name);
+        }
+        self.read_if_there(name)
+    }
+}

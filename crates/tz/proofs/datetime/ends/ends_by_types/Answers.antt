@@ -1,0 +1,36 @@
+-- The search begins with no entries, and takes any.
+use Rattle.std.proofs.Common.{◌∙◌, [], refl, arith}
+use Rattle.std.proofs.lemmas.Int.{to_z-of_z}
+use mir.Syntax.{w64}
+use Rattle.tz.proofs.Ends.{takes_all}
+use Rattle.tz.proofs.datetime.ends.ends_by_types.Goals as goal
+
+pub give_in_window-requires : goal.give_in_window-requires
+give_in_window-requires c κs =
+    rw (
+      to_z-of_z w64 c.args.reading c.ranges.reading,
+      to_z-of_z w64 c.args.low c.ranges.low,
+      to_z-of_z w64 c.args.high
+          c.ranges.high,
+    ) (
+      (refl, tt),
+      (
+        c.new-view.ensures ∙ c.transitions.ensures,
+        (
+          c.requires.searchable,
+          (
+            record {
+              is_taker = takes_all;
+              takes_reading =
+                  tt;
+            },
+            (c.requires.types, c.requires.position),
+          ),
+        ),
+      ),
+    )
+
+pub returns-clause-ok : goal.returns-clause-ok
+returns-clause-ok c =
+    let ok = rw (to_z-of_z w64 c.args.reading c.ranges.reading) at c.in_ok-give_in_window.ensures.ok in
+    (ok.0, ok.2, ok.1.1, ok.1.0 [] (omega (arith, ok.3)) c.none-ends.ensures)

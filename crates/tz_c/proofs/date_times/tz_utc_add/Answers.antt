@@ -1,0 +1,32 @@
+-- The duration has these seconds and nanoseconds, so the total is moved by them.
+use Rattle.std.proofs.Common.{◌≡◌, ℕ, ◌*◌, ◌+◌, ◌<◌, ◌≤◌, inl, inr, refl, subst, arith, rules, pos, ◌+ℤ◌}
+use Rattle.std.specs.Duration.{as_nanos}
+use Rattle.std.proofs.lemmas.Bool.{false≢true}
+use Rattle.tz_base.specs.declared.error.tz_error.TzError.TheVariants as faults
+use Rattle.tz_base.specs.declared.error.datetime.DateTimeError.TheVariants as field_faults
+use Rattle.tz.specs.DateTimes.{IsUtcAt, IsUtcTotal, utc_total}
+use Rattle.tz_c.proofs.date_times.tz_utc_add.Goals as goal
+
+pub returns-then-nanoseconds-ge-NANOSECONDS_PER_SECOND-clause-answer :
+    goal.returns-then-nanoseconds-ge-NANOSECONDS_PER_SECOND-clause-answer
+returns-then-nanoseconds-ge-NANOSECONDS_PER_SECOND-clause-answer c =
+    let many : 1000000000 ≤ c.args.nanoseconds = search rules in
+    inr (faults.DateTime field_faults.InvalidNanoseconds, refl, inl (refl, many))
+
+pub returns-in-Some-clause-answer : goal.returns-in-Some-clause-answer
+returns-in-Some-clause-answer c =
+    let from = utc_total c.args.utc.now in
+    let same : as_nanos c.new.result ≡ 1000000000 * c.args.seconds + c.args.nanoseconds =
+    omega (arith, c.new.ensures) in
+    let at = subst (λ (n : ℕ). IsUtcAt (from +ℤ pos n) c.in-Some.date_time) same c.in-Some.ensures.some in
+    inl (refl, (c.of.ensures.value, rw c.of.ensures.fields at))
+
+pub returns-in-None-clause-answer : goal.returns-in-None-clause-answer
+returns-in-None-clause-answer c =
+    let from = utc_total c.args.utc.now in
+    let few : c.args.nanoseconds < 1000000000 = search rules in
+    let same : as_nanos c.new.result ≡ 1000000000 * c.args.seconds + c.args.nanoseconds =
+    omega (arith, c.new.ensures) in
+    let none : ¬ IsUtcTotal (from +ℤ pos (as_nanos c.new.result)) =
+    λ total. false≢true (c.in-None.ensures.in_range.1 total) in
+    inr (faults.OutOfRange, refl, inr (refl, few, subst (λ (n : ℕ). ¬ IsUtcTotal (from +ℤ pos n)) same none))

@@ -1,0 +1,12 @@
+-- The faults are those of the zone that C passes.
+use Rattle.std.proofs.Common.{inr, subst, Option}
+use Rattle.tz.specs.declared.datetime.disambiguation.Disambiguation.{Disambiguation}
+use Rattle.tz_c.specs.DateTimes.{IsChoiceAnswer}
+use Rattle.tz_c.specs.ZoneOfData.{zone_of_data}
+use Rattle.tz_c.proofs.searches.tz_find_one.Goals as goal
+
+pub returns-in-Err-clause-answer : goal.returns-in-Err-clause-answer
+returns-in-Err-clause-answer c =
+    subst (λ (o : Option Disambiguation). IsChoiceAnswer (zone_of_data c.args.zone.now) o c.args.fields.now
+    c.code_of.result c.args.out.now) c.in-Some.ensures
+    (inr (inr (c.in-Err.error, c.code_of.ensures, rw c.lent.ensures at c.in-Err.ensures.err)))

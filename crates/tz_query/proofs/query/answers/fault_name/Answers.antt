@@ -1,0 +1,7 @@
+-- A refusal has its own name.
+use Rattle.std.proofs.Common.{refl}
+use Rattle.tz_query.proofs.query.answers.fault_name.Goals as goal
+
+pub returns-in-NoAvailableLocalTimeType-clause-text :
+    goal.returns-in-NoAvailableLocalTimeType-clause-text
+returns-in-NoAvailableLocalTimeType-clause-text c = rw c.in-NoAvailableLocalTimeType.is refl

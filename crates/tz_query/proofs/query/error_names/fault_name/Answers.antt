@@ -1,7 +1,0 @@
--- A refusal has its own name.
-use Rattle.std.proofs.Common.{refl}
-use Rattle.tz_query.proofs.query.error_names.fault_name.Goals as goal
-
-pub returns-in-NoAvailableLocalTimeType-clause-text :
-    goal.returns-in-NoAvailableLocalTimeType-clause-text
-returns-in-NoAvailableLocalTimeType-clause-text c = rw c.in-NoAvailableLocalTimeType.is refl

@@ -1,9 +1,0 @@
--- The pairing that is kept is that of the parts.
-use Rattle.tz_rule.specs.Parts.{rule_of}
-use Rattle.tz_rule.proofs.RulesAcrossYears.{MatchBool-ends_come_first}
-use Rattle.tz_rule.proofs.timezone.alternate_data.AlternateData.ends_next_year.Goals as goal
-
-pub returns : goal.returns
-returns c =
-    let kept = c.self.invariant in
-    rw (← c.self.view_is, kept.pairing) (MatchBool-ends_come_first (rule_of c.self.inside.parts) kept.are_days)

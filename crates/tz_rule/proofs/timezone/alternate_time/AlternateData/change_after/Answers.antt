@@ -1,0 +1,16 @@
+-- The switch next to the instant is the change.
+use Rattle.std.proofs.Common.{arith, rules}
+use Rattle.std.proofs.lemmas.Int.{ints, to_z-of_z}
+use mir.Syntax.{w64}
+use Rattle.tz_rule.proofs.RuleWalks.{switch_is_change_after}
+use Rattle.tz_rule.proofs.timezone.alternate_time.AlternateData.change_after.Goals as goal
+
+pub returns-in-Some-default-Some : goal.returns-in-Some-default-Some
+returns-in-Some-default-Some c =
+    let found = c.in-Some-default-Some in
+    let t = found.switch in
+    let k = c.change_at.result in
+    let at = rw (found.field-0-1-is, to_z-of_z w64 c.args.unix_time c.ranges.unix_time) at found.ensures.next in
+    rw c.change_at.ensures.time (switch_is_change_after c.args.self.now found.ensures.differ t.unix_time t.is_start
+    k.before.now k.after.now c.change_at.ensures.before c.change_at.ensures.after c.args.unix_time
+    (omega (arith, ints, to_z-of_z w64 t.unix_time (search rules))) at)

@@ -1,7 +1,0 @@
-//! Tests of rules and their local time types.
-#![tactic(auto)]
-
-#[cfg(test)]
-mod expect;
-#[cfg(test)]
-mod rules;

@@ -1,7 +1,0 @@
--- The bytes are those that were read, and no more than the limit.
-use Rattle.std.proofs.Common.{◌≤◌, length}
-use Rattle.std.specs.Io.KnownBytes.{Consumes}
-use Rattle.tz_zone.proofs.timezone.file_reader.read_up_to.Given as goal
-
-abbrev pub invariant-loop : goal.invariant-loop
-invariant-loop g l = Consumes (g.I.Read.remaining l.initial.input) (g.I.Read.remaining l.input) l.bytes.items × (length l.bytes.items ≤ l.limit)

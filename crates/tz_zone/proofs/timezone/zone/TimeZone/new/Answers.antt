@@ -1,0 +1,25 @@
+-- A zone is made of its parts.
+use Rattle.std.proofs.Common.{rules}
+use Rattle.std.proofs.lemmas.Int.{to_z-of_z}
+use mir.Syntax.{w32}
+use Rattle.tz_zone.proofs.timezone.zone.TimeZone.new.Goals as goal
+
+pub invariant_of-result-clause-sound : goal.invariant_of-result-clause-sound
+invariant_of-result-clause-sound g c =
+    rw (← c.deref.ensures.value, ← c.deref-2.ensures.value, ← c.deref-3.ensures.value)
+    (rw c.lent.ensures at c.in_ok-check_parts.ensures.ok).table
+
+pub invariant_of-result-clause-valid : goal.invariant_of-result-clause-valid
+invariant_of-result-clause-valid g c =
+    rw (← c.deref.ensures.value, ← c.deref-2.ensures.value, ← c.deref-3.ensures.value)
+    (∣ rw c.lent.ensures at c.in_ok-check_parts.ensures.ok ∣₁)
+
+pub invariant_of-result-clause-offsets : goal.invariant_of-result-clause-offsets
+invariant_of-result-clause-offsets g c =
+    let ends = c.offset_range-least_offset in
+    rw (
+      to_z-of_z w32 ends.result.0 (search rules),
+      to_z-of_z w32 ends.result.1 (search rules),
+      ← c.deref-4.ensures.value,
+    )
+    (∣ (rw c.lent-2.ensures at ends.ensures.least, rw c.lent-2.ensures at ends.ensures.greatest) ∣₁)

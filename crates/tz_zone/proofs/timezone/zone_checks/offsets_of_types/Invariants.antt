@@ -1,0 +1,13 @@
+-- The least and the greatest offset of the types so far.
+use Rattle.std.proofs.Common.{◌≡◌, ℕ, ◌<◌, ◌≤ℤ◌, Some}
+use Rattle.std.specs.Prelude.{slice_get}
+use Rattle.tz_rule.specs.LocalTimeType.{LocalTimeType}
+use Rattle.tz_zone.specs.Offsets.{IsOffsetOfTypes}
+use Rattle.tz_zone.proofs.timezone.zone_checks.offsets_of_types.Given as goal
+
+abbrev pub invariant-loop-index : goal.invariant-loop-index
+invariant-loop-index l = record {
+  of_types : IsOffsetOfTypes l.local_time_types l.least × IsOffsetOfTypes l.local_time_types l.greatest;
+  between : (i : ℕ) (t : LocalTimeType) → i < l.index → slice_get l.local_time_types i ≡ Some t
+      → (l.least ≤ℤ t.ut_offset) × (t.ut_offset ≤ℤ l.greatest);
+}

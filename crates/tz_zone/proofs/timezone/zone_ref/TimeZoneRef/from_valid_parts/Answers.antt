@@ -1,0 +1,7 @@
+-- The plain data has the rule that was lent.
+use Rattle.std.proofs.Common.{ap}
+use Rattle.tz_zone.specs.Table.{Zone}
+use Rattle.tz_zone.proofs.timezone.zone_ref.TimeZoneRef.from_valid_parts.Goals as goal
+
+pub invariant_of-result : goal.invariant_of-result
+invariant_of-result c = record { same = ap (λ (z : Zone). z.extra_rule) c.from_valid_parts-plain.ensures }

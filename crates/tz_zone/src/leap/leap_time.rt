@@ -1,0 +1,429 @@
+//! Leap times of instants, and instants of leap times.
+
+ghost use Rattle.std.specs.Prelude.{◌≡◌, ◌<◌, ◌≤◌, ◌+◌, ◌+ℤ◌, ◌≤ℤ◌, ◌<ℤ◌, ◌-ℤ◌, ℕ, length, slice_get, ℤ, pos, negsuc, IfOk, IfErr, MatchBool, MatchOption, Some};
+ghost use Rattle.std.specs.Bool.{OnTrue};
+ghost use Rattle.tz_zone.specs.Table.{LeapSecond};
+ghost use Rattle.tz_zone.specs.LeapTime.{IsInstant, IsReached, IsBeforeStart, IsPastInstants, IsLeapTimeRefused, IsLeapTime, IsTimeReached, IsWideEffect, IsEffect, IsEffectRefused, IsLastBefore};
+ghost use Rattle.tz_zone.specs.ValidZone.{AreLeapSeconds, HasBegunAt};
+
+use super::LeapSecond;
+use super::table::{correction_at_start, correction_before, truncated_start};
+use tz_base::error::TzError;
+
+/// Up to this instant no leap second takes the leap time out of 64 bits, whatever the table. It is
+/// past all years of 32 bits, and far below 2^63 less any correction.
+const ALWAYS_DEFINED_UP_TO: i64 = 80_000_000_000_000_000;
+
+/// A leap time less a correction, as a wide number.
+pub(crate) fn without_correction(time: i64, correction: i32) -> i128
+    ensures { result ≡ time -ℤ correction }
+{
+    i128::from(time) - i128::from(correction)
+}
+
+/// The first instant that does not lie before a truncated start, which may lie past 64 bits, or the
+/// least instant where there is none.
+pub(crate) fn first_instant(leap_seconds: &[LeapSecond]) -> i128
+    ensures begun { (u : ℤ) → result ≤ℤ u → ¬ IsBeforeStart leap_seconds.now u }
+    ensures before { (u : ℤ) → negsuc 9223372036854775807 ≤ℤ u → u <ℤ result
+        → IsBeforeStart leap_seconds.now u }
+{
+    match truncated_start(leap_seconds) {
+        Some(start) => without_correction(start.unix_leap_time(), start.correction()),
+        None => i128::from(i64::MIN),
+    }
+}
+
+/// Whether the instant is not before a truncated start.
+pub(crate) fn has_begun(leap_seconds: &[LeapSecond], unix_time: i64) -> bool
+    ensures { MatchBool result (¬ IsBeforeStart leap_seconds.now unix_time)
+        (IsBeforeStart leap_seconds.now unix_time) }
+{
+    first_instant(leap_seconds) <= i128::from(unix_time)
+}
+
+/// The first instant from another one on that does not lie before a truncated start, if there is
+/// one.
+#[inline(always)]
+pub(crate) fn first_begun(leap_seconds: &[LeapSecond], unix_time: i64) -> Option<i64>
+    ensures { MatchOption result ((u : ℤ) → unix_time ≤ℤ u → u ≤ℤ pos 9223372036854775807
+        → IsBeforeStart leap_seconds.now u)
+        (λ first. (unix_time ≤ℤ first) × (¬ IsBeforeStart leap_seconds.now first)
+        × ((u : ℤ) → unix_time ≤ℤ u → u <ℤ first → IsBeforeStart leap_seconds.now u)) }
+{
+    if has_begun(leap_seconds, unix_time) {
+        return Some(unix_time);
+    }
+    match i64::try_from(first_instant(leap_seconds)) {
+        Ok(first) => Some(first),
+        Err(_) => None,
+    }
+}
+
+/// How many leap seconds have a time that is not above a leap time, by halving.
+pub(crate) fn leap_seconds_up_to(leap_seconds: &[LeapSecond], unix_leap_time: i64) -> usize
+    requires { AreLeapSeconds leap_seconds.now }
+    ensures within { result ≤ length leap_seconds.now }
+    ensures up_to { (i : ℕ) (l : LeapSecond) → i < result → slice_get leap_seconds.now i ≡ Some l
+        → l.unix_leap_time ≤ℤ unix_leap_time }
+    ensures later { (i : ℕ) (l : LeapSecond) → result ≤ i → slice_get leap_seconds.now i ≡ Some l
+        → unix_leap_time <ℤ l.unix_leap_time }
+{
+    let mut low = 0;
+    let mut high = leap_seconds.len();
+    while low < high {
+        let index = low + (high - low) / 2;
+        if leap_seconds[index].unix_leap_time() <= unix_leap_time {
+            low = index + 1;
+        } else {
+            high = index;
+        }
+    }
+    low
+}
+
+/// Whether the leap second at an index is reached at an instant.
+fn is_reached(leap_seconds: &[LeapSecond], index: usize, unix_time: i64) -> bool
+    requires { index < length leap_seconds.now }
+    ensures { MatchBool result ((l : LeapSecond) × IsReached leap_seconds.now index l unix_time)
+        (¬ ((l : LeapSecond) × IsReached leap_seconds.now index l unix_time)) }
+{
+    let correction = correction_before(leap_seconds, index);
+    let time = leap_seconds[index].unix_leap_time();
+    i128::from(time) <= i128::from(unix_time) + i128::from(correction)
+}
+
+/// The first index, from `from` on, at which no leap second is reached.
+fn first_not_reached(leap_seconds: &[LeapSecond], from: usize, unix_time: i64) -> usize
+    requires { from ≤ length leap_seconds.now }
+    ensures within { result ≤ length leap_seconds.now }
+    ensures ahead { result < length leap_seconds.now
+        → ¬ ((l : LeapSecond) × IsReached leap_seconds.now result l unix_time) }
+{
+    let mut index = from;
+    while index < leap_seconds.len() && is_reached(leap_seconds, index, unix_time) {
+        index += 1;
+    }
+    index
+}
+
+/// The index after the last leap second before another index that is reached, or 0.
+fn after_last_reached(leap_seconds: &[LeapSecond], until: usize, unix_time: i64) -> usize
+    requires within { until ≤ length leap_seconds.now }
+    requires ahead { until < length leap_seconds.now
+        → ¬ ((l : LeapSecond) × IsReached leap_seconds.now until l unix_time) }
+    ensures within { result ≤ length leap_seconds.now }
+    ensures reached { (index : ℕ) → index + 1 ≡ result
+        → (l : LeapSecond) × IsReached leap_seconds.now index l unix_time }
+    ensures ahead { result < length leap_seconds.now
+        → ¬ ((l : LeapSecond) × IsReached leap_seconds.now result l unix_time) }
+{
+    let mut index = until;
+    while index > 0 && !is_reached(leap_seconds, index - 1, unix_time) {
+        index -= 1;
+    }
+    index
+}
+
+/// How many leap seconds are reached at an instant.
+///
+/// Corrections change by a second in four weeks at most. So in any real table these are the leap
+/// seconds whose time is at most the sum of the instant and the correction at the start of the
+/// table, or one more or one fewer.
+fn leap_seconds_reached(leap_seconds: &[LeapSecond], unix_time: i64) -> usize
+    requires { AreLeapSeconds leap_seconds.now }
+    ensures within { result ≤ length leap_seconds.now }
+    ensures reached { (i : ℕ) (l : LeapSecond) → i < result → slice_get leap_seconds.now i ≡ Some l
+        → IsReached leap_seconds.now i l unix_time }
+    ensures beyond { (i : ℕ) (l : LeapSecond) → IsReached leap_seconds.now i l unix_time
+        → i < result }
+{
+    let correction = correction_at_start(leap_seconds);
+    let likely = unix_time.saturating_add(i64::from(correction));
+    let index = leap_seconds_up_to(leap_seconds, likely);
+    let index = first_not_reached(leap_seconds, index, unix_time);
+    after_last_reached(leap_seconds, index, unix_time)
+}
+
+/// The last instant up to `high` at which the leap second at an index does not take the leap time
+/// out of 64 bits: it is not reached there, or the sum with its correction fits.
+fn last_with(leap_seconds: &[LeapSecond], index: usize, high: i64) -> i64
+    requires leaps { AreLeapSeconds leap_seconds.now }
+    requires index { index < length leap_seconds.now }
+    ensures up_to { result ≤ℤ high }
+    ensures within { (l : LeapSecond) (u : ℤ) → u ≤ℤ result → IsReached leap_seconds.now index l u
+        → IsInstant (u +ℤ l.correction) }
+    ensures past { (u : ℤ) → result <ℤ u → u ≤ℤ high
+        → (l : LeapSecond) × IsReached leap_seconds.now index l u
+        × ¬ IsInstant (u +ℤ l.correction) }
+{
+    let leap_second = &leap_seconds[index];
+    let correction = correction_before(leap_seconds, index);
+    let before = without_correction(leap_second.unix_leap_time(), correction) - 1;
+    let fitting = without_correction(i64::MAX, leap_second.correction());
+    before.max(fitting).min(i128::from(high)) as i64
+}
+
+/// The last instant up to `high` at which no leap second takes the leap time out of 64 bits.
+#[inline(never)]
+fn last_with_all(leap_seconds: &[LeapSecond], high: i64) -> i64
+    requires { AreLeapSeconds leap_seconds.now }
+    ensures up_to { result ≤ℤ high }
+    ensures within { (u : ℤ) → u ≤ℤ result → ¬ IsPastInstants leap_seconds.now u }
+    ensures past { (u : ℤ) → result <ℤ u → u ≤ℤ high → IsPastInstants leap_seconds.now u }
+{
+    let mut last = high;
+    for index in 0..leap_seconds.len() {
+        last = last_with(leap_seconds, index, last);
+    }
+    last
+}
+
+/// The last instant up to `high` at which no leap second takes the leap time out of 64 bits. Mostly
+/// it is `high` itself, and no leap second is read.
+#[inline(always)]
+pub(crate) fn last_instant_up_to(leap_seconds: &[LeapSecond], high: i64) -> i64
+    requires { AreLeapSeconds leap_seconds.now }
+    ensures up_to { result ≤ℤ high }
+    ensures within { (u : ℤ) → u ≤ℤ result → ¬ IsPastInstants leap_seconds.now u }
+    ensures past { (u : ℤ) → result <ℤ u → u ≤ℤ high → IsPastInstants leap_seconds.now u }
+{
+    if high <= ALWAYS_DEFINED_UP_TO {
+        return high;
+    }
+    last_with_all(leap_seconds, high)
+}
+
+/// The last instant at which no leap second takes the leap time out of 64 bits.
+pub(crate) fn last_instant(leap_seconds: &[LeapSecond]) -> i64
+    requires { AreLeapSeconds leap_seconds.now }
+    ensures within { (u : ℤ) → u ≤ℤ result → ¬ IsPastInstants leap_seconds.now u }
+    ensures past { (u : ℤ) → result <ℤ u → u ≤ℤ pos 9223372036854775807
+        → IsPastInstants leap_seconds.now u }
+{
+    last_instant_up_to(leap_seconds, i64::MAX)
+}
+
+/// Whether the instant has a leap time: it lies between the first and the last that have one.
+pub(crate) fn has_leap_time(leap_seconds: &[LeapSecond], unix_time: i64) -> bool
+    requires { AreLeapSeconds leap_seconds.now }
+    ensures { MatchBool result (¬ IsLeapTimeRefused leap_seconds.now unix_time)
+        (IsLeapTimeRefused leap_seconds.now unix_time) }
+{
+    has_begun(leap_seconds, unix_time) && unix_time <= last_instant_up_to(leap_seconds, unix_time)
+}
+
+/// The leap time of an instant that has one.
+pub(crate) fn existing_leap_time(leap_seconds: &[LeapSecond], unix_time: i64) -> i64
+    requires leaps { AreLeapSeconds leap_seconds.now }
+    requires defined { ¬ IsLeapTimeRefused leap_seconds.now unix_time }
+    ensures { IsLeapTime leap_seconds.now unix_time result }
+{
+    let reached = leap_seconds_reached(leap_seconds, unix_time);
+    unix_time + i64::from(correction_before(leap_seconds, reached))
+}
+
+/// The leap time of an instant, if it has one, by the leap seconds that are reached.
+#[inline(never)]
+fn leap_time_by_seconds(leap_seconds: &[LeapSecond], unix_time: i64) -> Option<i64>
+    requires { AreLeapSeconds leap_seconds.now }
+    ensures { MatchOption result (IsLeapTimeRefused leap_seconds.now unix_time)
+        (λ v. IsLeapTime leap_seconds.now unix_time v) }
+{
+    if !has_leap_time(leap_seconds, unix_time) {
+        return None;
+    }
+    Some(existing_leap_time(leap_seconds, unix_time))
+}
+
+/// The leap time of an instant, if it has one. Mostly there are no leap seconds, and it is the
+/// instant itself.
+#[inline(always)]
+pub(crate) fn leap_time(leap_seconds: &[LeapSecond], unix_time: i64) -> Option<i64>
+    requires { AreLeapSeconds leap_seconds.now }
+    ensures { MatchOption result (IsLeapTimeRefused leap_seconds.now unix_time)
+        (λ v. IsLeapTime leap_seconds.now unix_time v) }
+{
+    if leap_seconds.is_empty() {
+        return Some(unix_time);
+    }
+    leap_time_by_seconds(leap_seconds, unix_time)
+}
+
+/// The leap time of an instant. (RFC 8536, section 2)
+pub fn leap(leap_seconds: &[LeapSecond], unix_time: i64) -> Result<i64, TzError>
+    requires { AreLeapSeconds leap_seconds.now }
+    ensures ok { IfOk result (λ v. IsLeapTime leap_seconds.now unix_time v) }
+    ensures err { IfErr result (λ e. (e ≡ TzError.OutOfRange)
+        × IsLeapTimeRefused leap_seconds.now unix_time) }
+{
+    match leap_time_by_seconds(leap_seconds, unix_time) {
+        Some(unix_leap_time) => Ok(unix_leap_time),
+        None => Err(TzError::OutOfRange),
+    }
+}
+
+/// Whether all instants of a window have a leap time before a given one, by the leap time of the
+/// window's first instant alone.
+///
+/// Leap time grows as fast as Unix time, but by one second more or less at a leap second, of which
+/// there is at most one in about four weeks. So three times the seconds of a window are a generous
+/// bound, and one that ends long before the given leap time needs no second search of the leap
+/// seconds.
+#[inline(always)]
+pub(crate) fn stay_before(
+    leap_seconds: &[LeapSecond],
+    low: i64,
+    low_leap_time: i64,
+    high: i64,
+    unix_leap_time: i64,
+) -> bool
+    requires leaps { AreLeapSeconds leap_seconds.now }
+    requires low { IsLeapTime leap_seconds.now low low_leap_time }
+    ensures { OnTrue result ((u : ℤ) → low ≤ℤ u → u ≤ℤ high
+        → (v : ℤ) × IsLeapTime leap_seconds.now u v
+        × (v <ℤ unix_leap_time)) }
+{
+    if high > ALWAYS_DEFINED_UP_TO {
+        return false;
+    }
+    let seconds = i128::from(high) - i128::from(low);
+    i128::from(low_leap_time) + 3 * seconds < i128::from(unix_leap_time)
+}
+
+/// The effect of a leap time that is not before a truncated start, in 128 bits: the leap time less
+/// the correction in force, but not before the first instant at which the leap second of that
+/// correction is reached: its time less the correction before it.
+fn wide_effect_from_start(leap_seconds: &[LeapSecond], unix_leap_time: i64) -> i128
+    requires leaps { AreLeapSeconds leap_seconds.now }
+    requires begun { HasBegunAt leap_seconds.now unix_leap_time }
+    ensures { IsWideEffect leap_seconds.now unix_leap_time result }
+{
+    let count = leap_seconds_up_to(leap_seconds, unix_leap_time);
+    if count == 0 {
+        // Before the first leap second of a table that is not truncated there is no correction.
+        return without_correction(unix_leap_time, 0);
+    }
+    let last = &leap_seconds[count - 1];
+    let unix_time = without_correction(unix_leap_time, last.correction());
+    let begins = without_correction(
+        last.unix_leap_time(),
+        correction_before(leap_seconds, count - 1),
+    );
+    unix_time.max(begins)
+}
+
+/// The effect of a leap time, in 128 bits. It may lie past 64 bits, or have no leap time; then the
+/// given leap time takes effect at no instant. Before a truncated start it is the effect of the
+/// start.
+pub(crate) fn wide_effect(leap_seconds: &[LeapSecond], unix_leap_time: i64) -> i128
+    requires { AreLeapSeconds leap_seconds.now }
+    ensures { IsWideEffect leap_seconds.now unix_leap_time result }
+{
+    match truncated_start(leap_seconds) {
+        Some(start) if unix_leap_time < start.unix_leap_time() => {
+            wide_effect_from_start(leap_seconds, start.unix_leap_time())
+        }
+        _ => wide_effect_from_start(leap_seconds, unix_leap_time),
+    }
+}
+
+/// The effect of a leap time that is reached at some instant: then the effect is an instant, and
+/// fits 64 bits.
+#[inline(always)]
+pub(crate) fn effect_of_reached(leap_seconds: &[LeapSecond], unix_leap_time: i64) -> i64
+    requires leaps { AreLeapSeconds leap_seconds.now }
+    requires reached { (u : ℤ) × (u ≤ℤ pos 9223372036854775807)
+        × IsTimeReached leap_seconds.now unix_leap_time u }
+    ensures { IsWideEffect leap_seconds.now unix_leap_time result }
+{
+    if leap_seconds.is_empty() {
+        return unix_leap_time;
+    }
+    wide_effect(leap_seconds, unix_leap_time) as i64
+}
+
+/// The instant at which a leap time takes effect: the least one whose leap time is not below it.
+pub fn effect(leap_seconds: &[LeapSecond], unix_leap_time: i64) -> Result<i64, TzError>
+    requires { AreLeapSeconds leap_seconds.now }
+    ensures ok { IfOk result (λ u. IsEffect leap_seconds.now unix_leap_time u) }
+    ensures err { IfErr result (λ e. (e ≡ TzError.OutOfRange)
+        × IsEffectRefused leap_seconds.now unix_leap_time) }
+{
+    // As in tz-rs, the least leap time is refused.
+    if unix_leap_time == i64::MIN {
+        return Err(TzError::OutOfRange);
+    }
+    let Ok(unix_time) = i64::try_from(wide_effect(leap_seconds, unix_leap_time)) else {
+        return Err(TzError::OutOfRange);
+    };
+    if !has_leap_time(leap_seconds, unix_time) {
+        return Err(TzError::OutOfRange);
+    }
+    Ok(unix_time)
+}
+
+/// The instant at which a leap time takes effect, if it is reached at any, by the leap seconds.
+#[inline(never)]
+fn effect_by_seconds(leap_seconds: &[LeapSecond], unix_leap_time: i64) -> Option<i64>
+    requires { AreLeapSeconds leap_seconds.now }
+    ensures { MatchOption result ((u : ℤ) → u ≤ℤ pos 9223372036854775807
+        → ¬ IsTimeReached leap_seconds.now unix_leap_time u)
+        (λ m. IsWideEffect leap_seconds.now unix_leap_time m
+        × ¬ IsLeapTimeRefused leap_seconds.now m) }
+{
+    let Ok(effect) = i64::try_from(wide_effect(leap_seconds, unix_leap_time)) else {
+        return None;
+    };
+    if last_instant_up_to(leap_seconds, effect) < effect {
+        return None;
+    }
+    Some(effect)
+}
+
+/// The instant at which a leap time takes effect, if it is reached at any. Mostly there are no leap
+/// seconds, and it is the leap time itself.
+#[inline(always)]
+pub(crate) fn effect_if_reached(leap_seconds: &[LeapSecond], unix_leap_time: i64) -> Option<i64>
+    requires { AreLeapSeconds leap_seconds.now }
+    ensures { MatchOption result ((u : ℤ) → u ≤ℤ pos 9223372036854775807
+        → ¬ IsTimeReached leap_seconds.now unix_leap_time u)
+        (λ m. IsWideEffect leap_seconds.now unix_leap_time m
+        × ¬ IsLeapTimeRefused leap_seconds.now m) }
+{
+    if leap_seconds.is_empty() {
+        return Some(unix_leap_time);
+    }
+    effect_by_seconds(leap_seconds, unix_leap_time)
+}
+
+/// The last instant that has a leap time and at which `unix_leap_time` is not yet reached, by the
+/// leap seconds.
+#[inline(never)]
+fn last_before_by_seconds(leap_seconds: &[LeapSecond], unix_leap_time: i64) -> i64
+    requires leaps { AreLeapSeconds leap_seconds.now }
+    requires before { (u : ℤ) × (negsuc 9223372036854775807 ≤ℤ u)
+        × (¬ IsLeapTimeRefused leap_seconds.now u)
+        × ¬ IsTimeReached leap_seconds.now unix_leap_time u }
+    ensures { IsLastBefore leap_seconds.now unix_leap_time result }
+{
+    let before = wide_effect(leap_seconds, unix_leap_time) - 1;
+    let last = before.min(i128::from(i64::MAX)) as i64;
+    last_instant_up_to(leap_seconds, last)
+}
+
+/// The last instant that has a leap time and at which `unix_leap_time` is not yet reached. Mostly
+/// there are no leap seconds, and it is the instant right before `unix_leap_time`.
+#[inline(always)]
+pub(crate) fn last_before(leap_seconds: &[LeapSecond], unix_leap_time: i64) -> i64
+    requires leaps { AreLeapSeconds leap_seconds.now }
+    requires before { (u : ℤ) × (negsuc 9223372036854775807 ≤ℤ u)
+        × (¬ IsLeapTimeRefused leap_seconds.now u)
+        × ¬ IsTimeReached leap_seconds.now unix_leap_time u }
+    ensures { IsLastBefore leap_seconds.now unix_leap_time result }
+{
+    if leap_seconds.is_empty() {
+        return unix_leap_time - 1;
+    }
+    last_before_by_seconds(leap_seconds, unix_leap_time)
+}

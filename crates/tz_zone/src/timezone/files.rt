@@ -1,0 +1,346 @@
+//! Files of zones: reading one, and looking for one in directories.
+
+ghost use Rattle.std.specs.Prelude.{◌≡◌, ◌+◌, ◌≤◌, ◌++◌, length, IfOk, IfErr, alloc_error, ◌⊎◌, IfSome, Ok, Err, MatchOption, IsTrue, ◌↔◌};
+ghost use Rattle.std.specs.Io.{ReadsAtMost};
+ghost use Rattle.std.specs.Io.KnownBytes.{ReadConsumes, Consumes, IsAtEnd};
+ghost use Rattle.tz_base.specs.declared.error.tz_error.ReadFault.TheVariants.{Memory};
+ghost use Rattle.tz_zone.specs.File.{IsFailed, IsReadOut, IsReadOutUpTo, TakesAtMost};
+ghost use Rattle.std.specs.String.{string_bytes};
+ghost use Rattle.tz_zone.specs.Bytes.{slash};
+ghost use Rattle.tz_zone.specs.Settings.{path_in};
+ghost use Rattle.tz_zone.specs.TzText.{Begins};
+
+use super::TimeZoneSettings;
+use anyhow::anyhow;
+use arrayvec::ArrayString;
+use std::alloc::{AllocError, Allocator, Global};
+use std::fs::File;
+use std::io::{self, Read};
+use std::rt::Files;
+use tz_base::error::ReadFault;
+
+/// How many bytes are read at once. A longer buffer takes longer to clear than a second read of the
+/// longest files of time zones.
+const PIECE: usize = 2_000;
+
+/// The number of the system's error `ENOENT`.
+const NO_SUCH_FILE: i32 = 2;
+
+/// Reads a piece into the beginning of the buffer.
+fn read_piece<I: Read>(input: &mut I, buffer: &mut [u8]) -> Result<usize, ReadFault>
+    ensures bound { ReadsAtMost result buffer.new }
+    ensures bytes { ReadConsumes (I.remaining input.old) (I.remaining input.new) result buffer.new }
+    ensures err { IfErr result IsFailed }
+{
+    match input.read(buffer) {
+        Ok(count) => Ok(count),
+        Err(error) => Err(ReadFault::Failed(anyhow::Error::from(error))),
+    }
+}
+
+/// Appends a piece. The first one reserves room for this number of bytes.
+fn append<A: Allocator>(bytes: &mut Vec<u8, A>, piece: &[u8], room: usize) -> Result<(), ReadFault>
+    ensures ok { IfOk result (λ _. bytes.new.items ≡ bytes.old.items ++ piece.now) }
+    ensures err { IfErr result (λ e. e ≡ Memory alloc_error) }
+{
+    if bytes.is_empty() {
+        bytes.reserve(room)?;
+    }
+    bytes.extend_from_slice(piece)?;
+    Ok(())
+}
+
+/// Reads the input to its end. Where it is not empty, room for this number of bytes is reserved,
+/// since a growth may copy everything.
+pub fn read_to_end<A: Allocator, I: Read>(
+    alloc: A,
+    input: &mut I,
+    room: usize,
+) -> Result<Vec<u8, A>, ReadFault>
+    ensures { IfOk result (λ bytes. Consumes (I.remaining input.old)
+        (I.remaining input.new) bytes.items
+        × IsAtEnd (I.remaining input.new)) }
+{
+    let mut bytes = Vec::new(alloc);
+    let mut buffer = [0; PIECE];
+    for _ in 0..u64::MAX {
+        let count = read_piece(input, &mut buffer)?;
+        if count == 0 {
+            return Ok(bytes);
+        }
+        append(&mut bytes, &buffer[..count], room)?;
+    }
+    Err(ReadFault::Failed(anyhow!("file has no end")))
+}
+
+/// Reads the next piece, and at most this many bytes.
+fn read_piece_up_to<I: Read>(
+    input: &mut I,
+    buffer: &mut [u8; PIECE],
+    most: usize,
+) -> Result<usize, ReadFault>
+    requires some { 1 ≤ most }
+    requires within { most ≤ PIECE }
+    ensures bound { ReadsAtMost result buffer.new }
+    ensures most { IfOk result (λ count. count ≤ most) }
+    ensures bytes { ReadConsumes (I.remaining input.old) (I.remaining input.new) result buffer.new }
+{
+    read_piece(input, &mut buffer[..most])
+}
+
+/// The bytes of the input, read to its end, if there are at most `limit` of them. At most one byte
+/// more than that is read.
+///
+/// [`read_file_up_to`] opens a file and calls this.
+///
+/// # Errors
+///
+/// - [`ReadFault::Failed`] if the input cannot be read, or with a text that says so if it is
+///   longer, after one byte more than the limit was read;
+/// - [`ReadFault::Memory`] if an allocation for its bytes fails.
+pub fn read_up_to<A: Allocator, I: Read>(
+    alloc: A,
+    input: &mut I,
+    limit: usize,
+) -> Result<Vec<u8, A>, ReadFault>
+    ensures ok { IfOk result (λ bytes. Consumes (I.remaining input.old)
+        (I.remaining input.new) bytes.items
+        × IsAtEnd (I.remaining input.new)) }
+    ensures limit { IfOk result (λ bytes. length bytes.items ≤ limit) }
+    ensures most { TakesAtMost (limit + 1) (I.remaining input.old) (I.remaining input.new) }
+{
+    let mut bytes = Vec::new(alloc);
+    let mut buffer = [0; PIECE];
+    for _ in 0..u64::MAX {
+        let left = limit - bytes.len();
+        let count = read_piece_up_to(input, &mut buffer, left.min(PIECE - 1) + 1)?;
+        if count == 0 {
+            return Ok(bytes);
+        }
+        if left < count {
+            return Err(ReadFault::Failed(anyhow!("file is longer than {limit} bytes")));
+        }
+        append(&mut bytes, &buffer[..count], 0)?;
+    }
+    Err(ReadFault::Failed(anyhow!("file has no end")))
+}
+
+/// Why a file could not be opened. Most paths of a search have no file, so the system's text of
+/// that error is not looked up.
+pub fn open_fault(error: io::Error) -> ReadFault
+    ensures { IsFailed result }
+{
+    if error.raw_os_error() == Some(NO_SUCH_FILE) {
+        return ReadFault::Failed(anyhow!("No such file or directory (os error 2)"));
+    }
+    ReadFault::Failed(anyhow::Error::from(error))
+}
+
+/// The bytes of the file at the path, read to its end.
+///
+/// With the runtime passed in by a closure, this is a reader for
+/// [`TimeZoneSettings`](super::TimeZoneSettings).
+///
+/// # Errors
+///
+/// - [`ReadFault::Failed`] if the file cannot be opened or read, such as a directory;
+/// - [`ReadFault::Memory`] if an allocation for its bytes fails.
+pub fn read_file<R: Files>(rt: &R, alloc: Global, path: &str) -> Result<Vec<u8>, ReadFault>
+    ensures { IfOk result (λ bytes. IsReadOut R.File.remaining bytes.items) }
+{
+    match File::open(rt, path) {
+        Ok(mut file) => read_to_end(alloc, &mut file, 0),
+        Err(error) => Err(open_fault(error)),
+    }
+}
+
+/// The bytes of the file at the path, read to its end, if there are at most `limit` of them.
+///
+/// So a file that someone else chooses takes no more memory than the limit needs. Files of time
+/// zones take less than 10,000 bytes, so 65,536 are ample.
+///
+/// # Errors
+///
+/// Those of [`read_file`], and [`ReadFault::Failed`] with a text that says so if the file is
+/// longer, after one byte more than the limit was read.
+pub fn read_file_up_to<R: Files>(
+    rt: &R,
+    alloc: Global,
+    limit: usize,
+    path: &str,
+) -> Result<Vec<u8>, ReadFault>
+    ensures { IfOk result (λ bytes. IsReadOutUpTo limit R.File.remaining bytes.items) }
+{
+    match File::open(rt, path) {
+        Ok(mut file) => read_up_to(alloc, &mut file, limit),
+        Err(error) => Err(open_fault(error)),
+    }
+}
+
+/// How long a path may be that needs no memory: those of the names of the time zone database are
+/// shorter.
+const USUAL_LEN: usize = 96;
+
+/// Whether the name is a path of its own.
+fn is_absolute(name: &str) -> bool
+    ensures { IsTrue result ↔ Begins slash name.now }
+{
+    matches!(name.as_bytes(), [b'/', ..])
+}
+
+/// Writes the path of a name in a directory into the room of usual paths, and returns it, or `None`
+/// where the room is too short.
+#[inline(always)]
+fn usual_path<'p>(
+    room: &'p mut ArrayString<USUAL_LEN>,
+    directory: &str,
+    name: &str,
+) -> Option<&'p str>
+    ensures { IfSome result (λ path. path.now ≡ path_in directory.now name.now) }
+{
+    room.clear();
+    if room.try_push_str(directory).is_err()
+        || room.try_push_str("/").is_err()
+        || room.try_push_str(name).is_err()
+    {
+        return None;
+    }
+    Some(room.as_str())
+}
+
+/// The path of a name in a directory, in memory.
+fn long_path<A: Allocator + Copy>(
+    alloc: A,
+    directory: &str,
+    name: &str,
+) -> Result<String<A>, AllocError>
+    ensures { IfOk result (λ path. string_bytes path ≡ path_in directory.now name.now) }
+{
+    let mut path = String::with_capacity(alloc, directory.len() + 1 + name.len())?;
+    path.push_str(directory)?;
+    path.push_str("/")?;
+    path.push_str(name)?;
+    Ok(path)
+}
+
+impl<F: Fn(&str) -> Result<Vec<u8>, ReadFault>> TimeZoneSettings<'_, F> {
+    ghost use Rattle.anyhow.specs.declared.error.Error.{Error as Fault};
+    ghost use Rattle.std.specs.Fn.{FnReturnsAt};
+    ghost use Rattle.tz_base.specs.declared.error.tz_error.ReadFault.TheVariants.{Failed};
+    ghost use Rattle.tz_zone.specs.Settings.{FindsIn, Finds};
+    ghost use Rattle.tz_zone.specs.SettingsParts.{directories_of, reader_of};
+    ghost use Rattle.tz_zone.specs.ZoneNames.{IsCallableAt, IsPathIn};
+
+    /// What the reader returns for the path.
+    pub(super) fn read(&self, path: &str) -> Result<Vec<u8>, ReadFault>
+        requires { IsCallableAt F.Fn (reader_of self.now) (λ asked. asked ≡ path.now) }
+        ensures { FnReturnsAt F.Fn (reader_of self.now) path.now result }
+    {
+        (self.reader)(path)
+    }
+
+    /// The file at the path, or `None` if it cannot be read. The reader's fault is dropped at once.
+    #[inline(always)]
+    fn read_if_there(&self, path: &str) -> Result<Option<Vec<u8>>, AllocError>
+        requires { IsCallableAt F.Fn (reader_of self.now) (λ asked. asked ≡ path.now) }
+        ensures { IfOk result (λ found. MatchOption found
+            ((fault : Fault) × FnReturnsAt F.Fn (reader_of self.now) path.now (Err (Failed fault)))
+            (λ bytes. FnReturnsAt F.Fn (reader_of self.now) path.now (Ok bytes))) }
+    {
+        match self.read(path) {
+            Ok(bytes) => Ok(Some(bytes)),
+            Err(ReadFault::Memory(error)) => Err(error),
+            Err(ReadFault::Failed(_)) => Ok(None),
+        }
+    }
+
+    /// The file with the name in the directory, or `None` if it cannot be read.
+    #[inline(always)]
+    fn find_in_directory<A: Allocator + Copy>(
+        &self,
+        alloc: A,
+        room: &mut ArrayString<USUAL_LEN>,
+        directory: &str,
+        name: &str,
+    ) -> Result<Option<Vec<u8>>, AllocError>
+        requires { IsCallableAt F.Fn (reader_of self.now)
+            (λ asked. asked ≡ path_in directory.now name.now) }
+        ensures { IfOk result (λ found. MatchOption found
+            ((fault : Fault) × FnReturnsAt F.Fn (reader_of self.now)
+            (path_in directory.now name.now) (Err (Failed fault)))
+            (λ bytes. FnReturnsAt F.Fn (reader_of self.now) (path_in directory.now name.now)
+            (Ok bytes))) }
+    {
+        if let Some(path) = usual_path(room, directory, name) {
+            return self.read_if_there(path);
+        }
+        let path = long_path(alloc, directory, name)?;
+        self.read_if_there(path.as_str())
+    }
+
+    /// The file with the name in the first of the directories that has it, or `None` where none has
+    /// it.
+    pub(super) fn find_in_directories<A: Allocator + Copy>(
+        &self,
+        alloc: A,
+        name: &str,
+    ) -> Result<Option<Vec<u8>>, AllocError>
+        requires { IsCallableAt F.Fn (reader_of self.now)
+            (IsPathIn (directories_of self.now) name.now) }
+        ensures { IfOk result (λ found. MatchOption found
+            ((fault : Fault) → FindsIn (FnReturnsAt F.Fn (reader_of self.now))
+            (directories_of self.now) name.now (Err (Failed fault)))
+            (λ bytes. FindsIn (FnReturnsAt F.Fn (reader_of self.now)) (directories_of self.now)
+            name.now (Ok bytes))) }
+    {
+        let mut room = ArrayString::new();
+        for directory in self.directories {
+            let found = self.find_in_directory(alloc, &mut room, directory, name)?;
+            if let Some(bytes) = found {
+                return Ok(Some(bytes));
+            }
+        }
+        Ok(None)
+    }
+
+    /// The file with the name.
+    pub(super) fn find<A: Allocator + Copy>(
+        &self,
+        alloc: A,
+        name: &str,
+    ) -> Result<Vec<u8>, ReadFault>
+        requires { F.IsAlwaysCallable (reader_of self.now) }
+        ensures { (result ≡ Err (Memory alloc_error))
+            ⊎ Finds (FnReturnsAt F.Fn (reader_of self.now)) (directories_of self.now) name.now
+            result }
+    {
+        if is_absolute(name) {
+            return self.read(name);
+        }
+        let found = self.find_in_directories(alloc, name)?;
+        match found {
+            Some(bytes) => Ok(bytes),
+            None => Err(ReadFault::Failed(anyhow!("file was not found"))),
+        }
+    }
+
+    /// The file with the name, or `None` if it cannot be read. No text is made for an error that
+    /// nobody sees.
+    pub(super) fn find_readable<A: Allocator + Copy>(
+        &self,
+        alloc: A,
+        name: &str,
+    ) -> Result<Option<Vec<u8>>, AllocError>
+        requires { F.IsAlwaysCallable (reader_of self.now) }
+        ensures { IfOk result (λ found. MatchOption found
+            ((fault : Fault) × Finds (FnReturnsAt F.Fn (reader_of self.now))
+            (directories_of self.now) name.now (Err (Failed fault)))
+            (λ bytes. Finds (FnReturnsAt F.Fn (reader_of self.now)) (directories_of self.now)
+            name.now (Ok bytes))) }
+    {
+        if !is_absolute(name) {
+            return self.find_in_directories(alloc, name);
+        }
+        self.read_if_there(name)
+    }
+}
