@@ -107,7 +107,7 @@ EXACT = {
         ("self.checked_sub(duration).unwrap()", 'self.checked_sub(duration).expect("attempt to subtract with overflow")'),
     ),
     # The public type is by hand.
-    "crates/tz_zone/src/timezone/settings.rt": (
+    "crates/tz_zone/src/timezone/zone_names.rt": (
         ("(super::TimeZone::named)", "(crate::timezone::TimeZone::named)"),
     ),
     # Rust 1.85 has no condition with a pattern beside others, and no method for this cast.
@@ -133,7 +133,7 @@ LEFT_OUT = {
     "crates/tz_query/src/lib.rt": {"laws"},
     "crates/tz_c/src/lib.rt": {"laws"},
     # In Rust one implementation is for all that is a `TzError`.
-    "crates/tz_base/src/error/tz_error.rt": {"From for Error"},
+    "crates/tz_base/src/error.rt": {"From for Error"},
     # In Rust the current time is no argument.
     "crates/tz/src/datetime/date_time.rt": {"DateTime::now"},
     "crates/tz/src/datetime/utc_date_time.rt": {"UtcDateTime::now"},
@@ -171,10 +171,9 @@ EXAMPLE_FORMS = (
 # Sources whose items are not the public ones of the crate: their examples are of Rattle.
 OTHER_EXAMPLES = {
     "crates/tz/src/lib.rt",
-    "crates/tz_zone/src/timezone/files.rt",
     "crates/tz_zone/src/timezone/settings.rt",
     "crates/tz_zone/src/timezone/zone.rt",
-    "crates/tz_zone/src/timezone/zone_of_bytes.rt",
+    "crates/tz_zone/src/parse/tz_file.rt",
 }
 
 

@@ -5,10 +5,9 @@
 
 use crate::pointers::{Parts, Zone, list, list_mut};
 use crate::proved::tz_c::date_times::ParsedData;
-use crate::proved::tz_c::rules::ConflictData;
 use crate::proved::tz_c::texts::SettingData;
-use crate::proved::tz_c::zones::{ChangeData, OffsetsData, SegmentData};
-use crate::proved::tz_c::{codes, columns, date_times, files, rules, searches, texts, zones};
+use crate::proved::tz_c::zones::{ChangeData, ConflictData, OffsetsData, SegmentData};
+use crate::proved::tz_c::{codes, columns, date_times, searches, texts, zones};
 use tz::proved::tz::inner::{DateTimeData, Fields, FoundData, UtcData};
 use tz::proved::tz::{DateTime, UtcDateTime};
 use tz::proved::tz_rule::inner::{AlternateData, DayData, RuleData};
@@ -256,184 +255,6 @@ pub unsafe extern "C" fn tz_date_time_read(
     date_times::tz_date_time_read(text, out)
 }
 
-/// The sizes of a TZif file, by its headers alone.
-///
-/// # Safety
-///
-/// What tz.h asks of a caller.
-#[unsafe(no_mangle)]
-pub unsafe extern "C" fn tz_file_sizes(
-    bytes: *const u8,
-    bytes_length: usize,
-    out: &mut FileSizes,
-) -> u32 {
-    // SAFETY: tz.h asks of a caller what these require.
-    let bytes = unsafe { list(bytes, bytes_length) };
-    files::tz_file_sizes(bytes, out)
-}
-
-/// The parts of a TZif file, and the least and the greatest offset of its zone.
-///
-/// # Safety
-///
-/// What tz.h asks of a caller.
-#[unsafe(no_mangle)]
-pub unsafe extern "C" fn tz_file_read(
-    bytes: *const u8,
-    bytes_length: usize,
-    transitions: *mut Transition,
-    transitions_length: usize,
-    local_time_types: *mut LocalTimeType,
-    local_time_types_length: usize,
-    leap_seconds: *mut LeapSecond,
-    leap_seconds_length: usize,
-    rule: &mut RuleData,
-    out: &mut OffsetsData,
-) -> u32 {
-    // SAFETY: tz.h asks of a caller what these require.
-    let (bytes, transitions, local_time_types, leap_seconds) = unsafe {
-        (
-            list(bytes, bytes_length),
-            list_mut(transitions, transitions_length),
-            list_mut(local_time_types, local_time_types_length),
-            list_mut(leap_seconds, leap_seconds_length),
-        )
-    };
-    files::tz_file_read(
-        Global,
-        bytes,
-        transitions,
-        local_time_types,
-        leap_seconds,
-        rule,
-        out,
-    )
-}
-
-/// The rule of a TZ string, ordinary or extended, without white space at its ends.
-///
-/// # Safety
-///
-/// What tz.h asks of a caller.
-#[unsafe(no_mangle)]
-pub unsafe extern "C" fn tz_string_read(
-    text: *const u8,
-    text_length: usize,
-    is_extended: bool,
-    out: &mut RuleData,
-) -> u32 {
-    // SAFETY: tz.h asks of a caller what these require.
-    let text = unsafe { list(text, text_length) };
-    files::tz_string_read(text, is_extended, out)
-}
-
-/// The local time type with these parts, as `LocalTimeType::new` makes it.
-///
-/// # Safety
-///
-/// What tz.h asks of a caller.
-#[unsafe(no_mangle)]
-pub unsafe extern "C" fn tz_local_time_type_new(
-    ut_offset: i32,
-    is_dst: bool,
-    has_name: bool,
-    name: *const u8,
-    name_length: usize,
-    out: &mut LocalTimeType,
-) -> u32 {
-    // SAFETY: tz.h asks of a caller what these require.
-    let name = unsafe { list(name, name_length) };
-    rules::tz_local_time_type_new(ut_offset, is_dst, has_name, name, out)
-}
-
-/// The day with this number of the days that are not February 29th, as `Julian1WithoutLeap::new`
-/// makes it.
-#[unsafe(no_mangle)]
-pub extern "C" fn tz_julian_1_new(julian_day_1: u16, out: &mut DayData) -> u32 {
-    rules::tz_julian_1_new(julian_day_1, out)
-}
-
-/// The day this many days after January 1st, as `Julian0WithLeap::new` makes it.
-#[unsafe(no_mangle)]
-pub extern "C" fn tz_julian_0_new(julian_day_0: u16, out: &mut DayData) -> u32 {
-    rules::tz_julian_0_new(julian_day_0, out)
-}
-
-/// The week day of a month, as `MonthWeekDay::new` makes it.
-#[unsafe(no_mangle)]
-pub extern "C" fn tz_month_week_day_new(
-    month: u8,
-    week: u8,
-    week_day: u8,
-    out: &mut DayData,
-) -> u32 {
-    rules::tz_month_week_day_new(month, week, week_day, out)
-}
-
-/// The rule with these parts, as `AlternateTime::new` makes it.
-#[unsafe(no_mangle)]
-pub extern "C" fn tz_alternate_new(
-    std: &LocalTimeType,
-    dst: &LocalTimeType,
-    dst_start: &DayData,
-    dst_start_time: i32,
-    dst_end: &DayData,
-    dst_end_time: i32,
-    out: &mut AlternateData,
-) -> u32 {
-    rules::tz_alternate_new(
-        std,
-        dst,
-        dst_start,
-        dst_start_time,
-        dst_end,
-        dst_end_time,
-        out,
-    )
-}
-
-/// Why parts in range make no rule, as `AlternateTime::conflict` says it.
-#[unsafe(no_mangle)]
-pub extern "C" fn tz_alternate_conflict(
-    std: &LocalTimeType,
-    dst: &LocalTimeType,
-    dst_start: &DayData,
-    dst_start_time: i32,
-    dst_end: &DayData,
-    dst_end_time: i32,
-    out: &mut ConflictData,
-) -> u32 {
-    rules::tz_alternate_conflict(
-        std,
-        dst,
-        dst_start,
-        dst_start_time,
-        dst_end,
-        dst_end_time,
-        out,
-    )
-}
-
-/// The type of a rule at an instant.
-///
-/// # Safety
-///
-/// What tz.h asks of a caller.
-#[unsafe(no_mangle)]
-pub unsafe extern "C" fn tz_rule_type_at(
-    fixed: *const LocalTimeType,
-    fixed_length: usize,
-    alternate: *const AlternateData,
-    alternate_length: usize,
-    unix_time: i64,
-    out: &mut LocalTimeType,
-) -> u32 {
-    // SAFETY: tz.h asks of a caller what these require.
-    let (fixed, alternate) =
-        unsafe { (list(fixed, fixed_length), list(alternate, alternate_length)) };
-    rules::tz_rule_type_at(fixed, alternate, unix_time, out)
-}
-
 /// What is found of the fields from one of the entries on, and how many entries there are.
 ///
 /// # Safety
@@ -556,6 +377,184 @@ pub unsafe extern "C" fn tz_setting_read(
     // SAFETY: tz.h asks of a caller what these require.
     let text = unsafe { list(text, text_length) };
     texts::tz_setting_read(text, out)
+}
+
+/// The sizes of a TZif file, by its headers alone.
+///
+/// # Safety
+///
+/// What tz.h asks of a caller.
+#[unsafe(no_mangle)]
+pub unsafe extern "C" fn tz_file_sizes(
+    bytes: *const u8,
+    bytes_length: usize,
+    out: &mut FileSizes,
+) -> u32 {
+    // SAFETY: tz.h asks of a caller what these require.
+    let bytes = unsafe { list(bytes, bytes_length) };
+    texts::tz_file_sizes(bytes, out)
+}
+
+/// The parts of a TZif file, and the least and the greatest offset of its zone.
+///
+/// # Safety
+///
+/// What tz.h asks of a caller.
+#[unsafe(no_mangle)]
+pub unsafe extern "C" fn tz_file_read(
+    bytes: *const u8,
+    bytes_length: usize,
+    transitions: *mut Transition,
+    transitions_length: usize,
+    local_time_types: *mut LocalTimeType,
+    local_time_types_length: usize,
+    leap_seconds: *mut LeapSecond,
+    leap_seconds_length: usize,
+    rule: &mut RuleData,
+    out: &mut OffsetsData,
+) -> u32 {
+    // SAFETY: tz.h asks of a caller what these require.
+    let (bytes, transitions, local_time_types, leap_seconds) = unsafe {
+        (
+            list(bytes, bytes_length),
+            list_mut(transitions, transitions_length),
+            list_mut(local_time_types, local_time_types_length),
+            list_mut(leap_seconds, leap_seconds_length),
+        )
+    };
+    texts::tz_file_read(
+        Global,
+        bytes,
+        transitions,
+        local_time_types,
+        leap_seconds,
+        rule,
+        out,
+    )
+}
+
+/// The rule of a TZ string, ordinary or extended, without white space at its ends.
+///
+/// # Safety
+///
+/// What tz.h asks of a caller.
+#[unsafe(no_mangle)]
+pub unsafe extern "C" fn tz_string_read(
+    text: *const u8,
+    text_length: usize,
+    is_extended: bool,
+    out: &mut RuleData,
+) -> u32 {
+    // SAFETY: tz.h asks of a caller what these require.
+    let text = unsafe { list(text, text_length) };
+    texts::tz_string_read(text, is_extended, out)
+}
+
+/// The local time type with these parts, as `LocalTimeType::new` makes it.
+///
+/// # Safety
+///
+/// What tz.h asks of a caller.
+#[unsafe(no_mangle)]
+pub unsafe extern "C" fn tz_local_time_type_new(
+    ut_offset: i32,
+    is_dst: bool,
+    has_name: bool,
+    name: *const u8,
+    name_length: usize,
+    out: &mut LocalTimeType,
+) -> u32 {
+    // SAFETY: tz.h asks of a caller what these require.
+    let name = unsafe { list(name, name_length) };
+    zones::tz_local_time_type_new(ut_offset, is_dst, has_name, name, out)
+}
+
+/// The day with this number of the days that are not February 29th, as `Julian1WithoutLeap::new`
+/// makes it.
+#[unsafe(no_mangle)]
+pub extern "C" fn tz_julian_1_new(julian_day_1: u16, out: &mut DayData) -> u32 {
+    zones::tz_julian_1_new(julian_day_1, out)
+}
+
+/// The day this many days after January 1st, as `Julian0WithLeap::new` makes it.
+#[unsafe(no_mangle)]
+pub extern "C" fn tz_julian_0_new(julian_day_0: u16, out: &mut DayData) -> u32 {
+    zones::tz_julian_0_new(julian_day_0, out)
+}
+
+/// The week day of a month, as `MonthWeekDay::new` makes it.
+#[unsafe(no_mangle)]
+pub extern "C" fn tz_month_week_day_new(
+    month: u8,
+    week: u8,
+    week_day: u8,
+    out: &mut DayData,
+) -> u32 {
+    zones::tz_month_week_day_new(month, week, week_day, out)
+}
+
+/// The rule with these parts, as `AlternateTime::new` makes it.
+#[unsafe(no_mangle)]
+pub extern "C" fn tz_alternate_new(
+    std: &LocalTimeType,
+    dst: &LocalTimeType,
+    dst_start: &DayData,
+    dst_start_time: i32,
+    dst_end: &DayData,
+    dst_end_time: i32,
+    out: &mut AlternateData,
+) -> u32 {
+    zones::tz_alternate_new(
+        std,
+        dst,
+        dst_start,
+        dst_start_time,
+        dst_end,
+        dst_end_time,
+        out,
+    )
+}
+
+/// Why parts in range make no rule, as `AlternateTime::conflict` says it.
+#[unsafe(no_mangle)]
+pub extern "C" fn tz_alternate_conflict(
+    std: &LocalTimeType,
+    dst: &LocalTimeType,
+    dst_start: &DayData,
+    dst_start_time: i32,
+    dst_end: &DayData,
+    dst_end_time: i32,
+    out: &mut ConflictData,
+) -> u32 {
+    zones::tz_alternate_conflict(
+        std,
+        dst,
+        dst_start,
+        dst_start_time,
+        dst_end,
+        dst_end_time,
+        out,
+    )
+}
+
+/// The type of a rule at an instant.
+///
+/// # Safety
+///
+/// What tz.h asks of a caller.
+#[unsafe(no_mangle)]
+pub unsafe extern "C" fn tz_rule_type_at(
+    fixed: *const LocalTimeType,
+    fixed_length: usize,
+    alternate: *const AlternateData,
+    alternate_length: usize,
+    unix_time: i64,
+    out: &mut LocalTimeType,
+) -> u32 {
+    // SAFETY: tz.h asks of a caller what these require.
+    let (fixed, alternate) =
+        unsafe { (list(fixed, fixed_length), list(alternate, alternate_length)) };
+    zones::tz_rule_type_at(fixed, alternate, unix_time, out)
 }
 
 /// Whether parts make a zone, as `TimeZoneRef::new` checks them, and its end offsets.

@@ -9,7 +9,7 @@ use Rattle.std.proofs.lemmas.List.Elements.{All-head, All-tail}
 use Rattle.std.proofs.lemmas.Option.{slice_get-get_or}
 use Rattle.std.proofs.lemmas.Slice.Zip.{AllZip-long}
 use Rattle.tz_base.specs.declared.fields.Fields.{Fields}
-use Rattle.tz_base.specs.declared.error.tz_error.TzError.{TzError}
+use Rattle.tz_base.specs.declared.error.TzError.{TzError}
 use Rattle.tz_base.specs.Fields.{IsReading, IsValid, reading}
 use Rattle.tz_rule.specs.LocalTimeType.{LocalTimeType}
 use Rattle.tz_zone.specs.Clock.{IsClock}
@@ -24,8 +24,8 @@ use Rattle.tz.specs.Found.{Clock, EachCanBeMade, IsFound, Shows}
 use Rattle.tz.specs.LocalMeanings.{HasMeaning, meaning_of}
 use Rattle.tz.specs.Meanings.{IsMeaning, IsMeaningFault, IsMeantIn, instant_meant, entry_meant as found_meant}
 use Rattle.tz.specs.Meanings.{first_shown as first_found_shown, last_entry as last_found}
-use Rattle.tz.specs.declared.datetime.disambiguation.Disambiguation.{Disambiguation}
-use Rattle.tz.specs.declared.datetime.disambiguation.Disambiguation.TheVariants.{Compatible, Earlier, Later, Reject}
+use Rattle.tz.specs.declared.datetime.meaning.Disambiguation.{Disambiguation}
+use Rattle.tz.specs.declared.datetime.meaning.Disambiguation.TheVariants.{Compatible, Earlier, Later, Reject}
 use Rattle.tz.specs.declared.datetime.ends.Ends.{Ends}
 use Rattle.tz.specs.declared.datetime.ends.Entry.{Entry as LentEntry}
 use Rattle.tz.specs.declared.datetime.ends.Entry.TheVariants as lent

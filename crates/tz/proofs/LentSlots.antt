@@ -13,7 +13,7 @@ use Rattle.tz_base.specs.declared.fields.Fields.{Fields}
 use Rattle.tz_zone.specs.Table.{Zone}
 pub use Rattle.tz.specs.declared.datetime.find.Refused.{Refused}
 pub use Rattle.tz.specs.declared.datetime.found.FoundDateTimeListRefMut.{FoundDateTimeListRefMut}
-pub use Rattle.tz_base.specs.declared.error.tz_error.TzError.{TzError}
+pub use Rattle.tz_base.specs.declared.error.TzError.{TzError}
 pub use base.Fml.{Lft, Fml, feq, fex, fsep, fobs, fauth, GName, fres}
 pub use base.Logic.{ent, sep, emp, wand, via, ex_i, emp∗, mono∗, SProp, id⊢}
 use base.Stored.{coded_list}

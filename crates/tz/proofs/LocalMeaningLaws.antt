@@ -9,8 +9,8 @@ use Rattle.tz.specs.DateTimes.{DateTime, ShowsByClock}
 use Rattle.tz.specs.Found.{IsFound}
 use Rattle.tz.specs.LocalMeanings.{ChoicesAgree, HasMeaning, meaning_of}
 use Rattle.tz.specs.Meanings.{entry_meant, first_shown, instant_meant, last_entry, only_shown, IsMeaning, IsMeantIn}
-use Rattle.tz.specs.declared.datetime.disambiguation.Disambiguation.{Disambiguation}
-use Rattle.tz.specs.declared.datetime.disambiguation.Disambiguation.TheVariants.{Compatible, Earlier, Later, Reject}
+use Rattle.tz.specs.declared.datetime.meaning.Disambiguation.{Disambiguation}
+use Rattle.tz.specs.declared.datetime.meaning.Disambiguation.TheVariants.{Compatible, Earlier, Later, Reject}
 use Rattle.tz.specs.declared.datetime.found.FoundDateTimeKind.{FoundDateTimeKind}
 use Rattle.tz.specs.declared.datetime.found.FoundDateTimeKind.TheVariants.{Normal, Skipped}
 use Rattle.tz.specs.declared.datetime.meaning.Meaning.{Meaning}

@@ -6,7 +6,7 @@ use Rattle.tz.specs.Buffers.{GrowsBy}
 use Rattle.tz.specs.Plain.{placed}
 use Rattle.tz.specs.Slots.{Slots, filled}
 use Rattle.tz.specs.declared.datetime.found.FoundDateTimeKind.{FoundDateTimeKind}
-use Rattle.tz.specs.declared.datetime.slot_writer.SlotWriter.{SlotWriter}
+use Rattle.tz.specs.declared.datetime.entry_takers.SlotWriter.{SlotWriter}
 
 module _ {S : Type 0} where
   pub placed_none : (slots : List S) → placed slots [] ≡ slots

@@ -8,8 +8,8 @@ use Rattle.tz_rule.specs.LocalTimeType.{IsOffset}
 use Rattle.tz.specs.DateTimes.{IsUtc}
 use Rattle.tz.specs.DateTimeText.{date, duration, offset, time, IsDateTimeText}
 use Rattle.tz.specs.PrintedText.{printed_text}
-use Rattle.tz.specs.declared.parse.date_and_time.OffsetMark.TheVariants.{Absent, Utc, Ahead, Behind}
-use Rattle.tz.specs.declared.parse.parsed_date_time.ParsedDateTime.{ParsedDateTime}
+use Rattle.tz.specs.declared.parse.OffsetMark.TheVariants.{Absent, Utc, Ahead, Behind}
+use Rattle.tz.specs.declared.parse.ParsedDateTime.{ParsedDateTime}
 use Rattle.tz.proofs.ReadBack.{printed_is_read, utc_not_past}
 use Rattle.tz.proofs.TextValues.{fields_are_utc}
 

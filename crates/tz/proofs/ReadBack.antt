@@ -16,7 +16,7 @@ use Rattle.tz.specs.UtcConstants.{max_is_utc}
 use Rattle.tz.specs.DateTimes.{IsPastTheEnd, IsUtc}
 use Rattle.tz.specs.PrintedText.{last_digits, two_digits, nine_digits, two_digits_or_more, date_text, time_text, seconds_text, duration_text, offset_text, printed_text}
 use Rattle.tz.specs.DateTimeText.{EndsDigits, IsDigits, IsFraction, IsHours, IsPair, IsSecond, IsSeconds, IsYear, date, time, duration, offset, IsDateTimeText}
-use Rattle.tz.specs.declared.parse.date_and_time.OffsetMark.TheVariants.{Utc, Ahead, Behind}
+use Rattle.tz.specs.declared.parse.OffsetMark.TheVariants.{Utc, Ahead, Behind}
 use Rattle.tz.proofs.LastDigits.{last_digits_all, last_digits_length, last_digits_value}
 use Rattle.tz.proofs.PrintedDigits.{decimal-pairs, length-two_digits, two_digits_or_more-below}
 

@@ -4,14 +4,14 @@ use Rattle.std.proofs.lemmas.Option.{same_Some}
 use Rattle.std.specs.Int.{w32}
 use Rattle.tz_base.specs.Fields.{reading, IsValid}
 use Rattle.tz_base.proofs.LastSeconds.{valid_reading}
-use Rattle.tz_base.specs.declared.error.tz_error.TzError.{TzError}
+use Rattle.tz_base.specs.declared.error.TzError.{TzError}
 use Rattle.tz_base.specs.declared.fields.Fields.{Fields}
 use Rattle.tz_zone.specs.Clock.{IsClock}
 use Rattle.tz_zone.specs.Table.{Zone}
 use Rattle.tz.specs.DateTimes.{DateTime}
 use Rattle.tz.specs.Found.{EachCanBeMade}
 use Rattle.tz.specs.Meanings.{entry_meant, instant_meant, IsMeantFault, IsMeantIn, IsMeaning, IsMeaningFault}
-use Rattle.tz.specs.declared.datetime.disambiguation.Disambiguation.{Disambiguation}
+use Rattle.tz.specs.declared.datetime.meaning.Disambiguation.{Disambiguation}
 use Rattle.tz.specs.declared.datetime.found.FoundDateTimeKind.{FoundDateTimeKind}
 use Rattle.tz.specs.declared.datetime.found.FoundDateTimeKind.TheVariants.{Normal, Skipped}
 use Rattle.tz.proofs.UniqueLists.{found_unique}

@@ -4,10 +4,10 @@ use Rattle.std.proofs.lemmas.Bool.Decides.{nat_tests}
 use Rattle.std.proofs.lemmas.Int.{ints}
 use Rattle.std.specs.Prelude.{◌&&◌, cond, leb}
 use Rattle.tz_base.specs.declared.fields.Fields.{Fields}
-use Rattle.tz_base.specs.declared.error.tz_error.TzError.{TzError}
-use Rattle.tz_base.specs.declared.error.tz_error.TzError.TheVariants.{DateTime as FieldFault}
-use Rattle.tz_base.specs.declared.error.datetime.DateTimeError.{DateTimeError}
-use Rattle.tz_base.specs.declared.error.datetime.DateTimeError.TheVariants.{InvalidMonth, InvalidMonthDay, InvalidHour, InvalidMinute, InvalidSecond, InvalidNanoseconds}
+use Rattle.tz_base.specs.declared.error.TzError.{TzError}
+use Rattle.tz_base.specs.declared.error.TzError.TheVariants.{DateTime as FieldFault}
+use Rattle.tz_base.specs.declared.error.DateTimeError.{DateTimeError}
+use Rattle.tz_base.specs.declared.error.DateTimeError.TheVariants.{InvalidMonth, InvalidMonthDay, InvalidHour, InvalidMinute, InvalidSecond, InvalidNanoseconds}
 use Rattle.tz_base.specs.Fields.{IsFirstFault, IsReading, IsValid, reading}
 use Rattle.tz_rule.specs.LocalTimeType.{LocalTimeType}
 use Rattle.tz_zone.specs.Table.{Transition, Zone}

@@ -5,7 +5,7 @@ use Rattle.std.proofs.Common.{refl, ◌∙◌}
 use Rattle.tz.specs.Growth.{HoldsMore, holds_more, holds_none}
 use Rattle.tz.specs.Plain.{placed}
 use Rattle.tz.specs.declared.datetime.found.FoundDateTimeKind.{FoundDateTimeKind}
-use Rattle.tz.specs.declared.datetime.slot_writer.SlotWriter.{SlotWriter}
+use Rattle.tz.specs.declared.datetime.entry_takers.SlotWriter.{SlotWriter}
 
 module _ {S : Type 0} (holding : FoundDateTimeKind → S) where
   -- the writer counts the list, and its entries from a number on are in the slots, which were these

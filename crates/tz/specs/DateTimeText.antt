@@ -12,12 +12,12 @@ use Rattle.tz_base.specs.Fields.{fields_of, reading}
 use Rattle.tz.specs.DateTimes.{DateTime, IsPastTheEnd}
 use Rattle.tz.specs.PrintedText.{two_digits}
 use Rattle.tz.specs.Grammars.{Grammar, one, ◌▸◌, done}
-use Rattle.tz.specs.declared.parse.error.DateTimePart.{DateTimePart}
-use Rattle.tz.specs.declared.parse.error.DateTimePart.TheVariants as parts
-use Rattle.tz.specs.declared.parse.error.ParseDateTimeError.{ParseDateTimeError}
-use Rattle.tz.specs.declared.parse.date_and_time.OffsetMark.{OffsetMark}
-use Rattle.tz.specs.declared.parse.date_and_time.OffsetMark.TheVariants.{Absent, Utc, Ahead, Behind}
-use Rattle.tz.specs.declared.parse.parsed_date_time.ParsedDateTime.{ParsedDateTime}
+use Rattle.tz.specs.declared.parse.DateTimePart.{DateTimePart}
+use Rattle.tz.specs.declared.parse.DateTimePart.TheVariants as parts
+use Rattle.tz.specs.declared.parse.ParseDateTimeError.{ParseDateTimeError}
+use Rattle.tz.specs.declared.parse.OffsetMark.{OffsetMark}
+use Rattle.tz.specs.declared.parse.OffsetMark.TheVariants.{Absent, Utc, Ahead, Behind}
+use Rattle.tz.specs.declared.parse.ParsedDateTime.{ParsedDateTime}
 
 -- no digit stands first
 abbrev pub EndsDigits : List ℕ → Type 0

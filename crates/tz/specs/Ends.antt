@@ -5,8 +5,8 @@ use Rattle.std.specs.Prelude.{slice_get, option_map}
 use Rattle.std.specs.List.{All}
 use Rattle.std.specs.Option.{option_or}
 use Rattle.std.proofs.lemmas.List.Elements.{All-nil, All-append}
-use Rattle.tz_base.specs.declared.error.tz_error.TzError.{TzError}
-use Rattle.tz_base.specs.declared.error.tz_error.TzError.TheVariants as faults
+use Rattle.tz_base.specs.declared.error.TzError.{TzError}
+use Rattle.tz_base.specs.declared.error.TzError.TheVariants as faults
 use Rattle.tz_rule.specs.LocalTimeType.{LocalTimeType}
 use Rattle.tz_zone.specs.Clock.{IsClock}
 use Rattle.tz_zone.specs.Table.{Zone}
@@ -14,10 +14,10 @@ use Rattle.tz.specs.Entries.{Entry, Shown, Jump, AreEntries, HasTwoTypes, IsEntr
 use Rattle.tz.specs.Entries.{IsEntryInside, IsEntryOutside}
 use Rattle.tz.specs.Found.{Clock}
 use Rattle.tz.specs.Growth.{HoldsMore, holds_more, holds_none}
-use Rattle.tz.specs.declared.datetime.disambiguation.Disambiguation.{Disambiguation}
-use Rattle.tz.specs.declared.datetime.disambiguation.Disambiguation.TheVariants.{Compatible}
-use Rattle.tz.specs.declared.datetime.disambiguation.Disambiguation.TheVariants.{Earlier, Later}
-use Rattle.tz.specs.declared.datetime.disambiguation.Disambiguation.TheVariants.{Reject}
+use Rattle.tz.specs.declared.datetime.meaning.Disambiguation.{Disambiguation}
+use Rattle.tz.specs.declared.datetime.meaning.Disambiguation.TheVariants.{Compatible}
+use Rattle.tz.specs.declared.datetime.meaning.Disambiguation.TheVariants.{Earlier, Later}
+use Rattle.tz.specs.declared.datetime.meaning.Disambiguation.TheVariants.{Reject}
 use Rattle.tz.specs.declared.datetime.ends.Ends.{Ends}
 use Rattle.tz.specs.declared.datetime.ends.FewEntries.{FewEntries}
 use Rattle.tz.specs.declared.datetime.ends.FewEntries.TheVariants.{Nothing, Once, Twice, Skipped}

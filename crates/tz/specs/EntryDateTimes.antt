@@ -3,13 +3,13 @@ use Rattle.std.specs.Prelude.{◌≡◌, ◌⊎◌, ℤ, List, [], ◌∷◌, �
 use Rattle.std.specs.List.{AllZip}
 use Rattle.std.proofs.Common.{refl, sym, ◌∙◌, subst}
 use Rattle.tz_base.specs.declared.fields.Fields.{Fields}
-use Rattle.tz_base.specs.declared.error.tz_error.TzError.{TzError}
-use Rattle.tz_base.specs.declared.error.tz_error.TzError.TheVariants as faults
+use Rattle.tz_base.specs.declared.error.TzError.{TzError}
+use Rattle.tz_base.specs.declared.error.TzError.TheVariants as faults
 use Rattle.tz_base.specs.Fields.{IsValid, reading}
 use Rattle.tz.specs.DateTimes.{DateTime, ShowsInstant, moment_of}
 use Rattle.tz.specs.Entries.{Entry, Shown, Jump, IsEntryOutside}
 use Rattle.tz.specs.Found.{CanBeMade}
-use Rattle.tz.specs.declared.datetime.dated_entries.Dated.{Dated}
+use Rattle.tz.specs.declared.datetime.entry_takers.Dated.{Dated}
 use Rattle.tz.specs.declared.datetime.found.FoundDateTimeKind.{FoundDateTimeKind}
 use Rattle.tz.specs.declared.datetime.found.FoundDateTimeKind.TheVariants.{Normal, Skipped}
 

@@ -1,9 +1,9 @@
 -- Why a search for fields is refused, and when it is never out of range.
 use Rattle.std.specs.Prelude.{◌≡◌, ◌⊎◌, ℕ, ℤ, negsuc, pos, ◌≤ℤ◌, Option, Some, None, ⊤, alloc_error}
 use Rattle.tz_base.specs.declared.fields.Fields.{Fields}
-use Rattle.tz_base.specs.declared.error.tz_error.TzError.{TzError}
-use Rattle.tz_base.specs.declared.error.tz_error.TzError.TheVariants as faults
-use Rattle.tz_base.specs.declared.error.datetime.DateTimeError.{DateTimeError}
+use Rattle.tz_base.specs.declared.error.TzError.{TzError}
+use Rattle.tz_base.specs.declared.error.TzError.TheVariants as faults
+use Rattle.tz_base.specs.declared.error.DateTimeError.{DateTimeError}
 use Rattle.tz_base.specs.Fields.{IsFirstFault, IsValid}
 use Rattle.tz_rule.specs.LocalTimeType.{LocalTimeType}
 use Rattle.tz_rule.specs.Alternate.{IsRuleOffset}

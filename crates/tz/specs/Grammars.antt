@@ -2,7 +2,7 @@
 -- there and which bytes follow, and, if there is none, which part is the first that is missing and
 -- which bytes stand in its place.
 use Rattle.std.specs.Prelude.{◌≡◌, ℕ, ◌⊎◌, List}
-use Rattle.tz.specs.declared.parse.error.DateTimePart.{DateTimePart}
+use Rattle.tz.specs.declared.parse.DateTimePart.{DateTimePart}
 
 infixr 3 ◌▸◌
 pub record Grammar (A : Type 0) : Type 1 where

@@ -3,15 +3,15 @@
 use Rattle.std.specs.Prelude.{◌≡◌, ◌⊎◌, ◌-◌, ◌-ℤ◌, ℤ, List, [], ◌∷◌, Option, Some, None, length, slice_get, ⊤}
 use Rattle.std.specs.Option.{option_or}
 use Rattle.tz_base.specs.declared.fields.Fields.{Fields}
-use Rattle.tz_base.specs.declared.error.tz_error.TzError.{TzError}
+use Rattle.tz_base.specs.declared.error.TzError.{TzError}
 use Rattle.tz_base.specs.Fields.{reading, IsValid}
 use Rattle.tz_zone.specs.Clock.{IsClock}
 use Rattle.tz_zone.specs.Table.{Zone}
 use Rattle.tz.specs.DateTimes.{DateTime, ShowsByClock, IsClockFault}
 use Rattle.tz.specs.FindFaults.{IsFindFault}
 use Rattle.tz.specs.Found.{EachCanBeMade, IsFound}
-use Rattle.tz.specs.declared.datetime.disambiguation.Disambiguation.{Disambiguation}
-use Rattle.tz.specs.declared.datetime.disambiguation.Disambiguation.TheVariants.{Compatible, Earlier, Later, Reject}
+use Rattle.tz.specs.declared.datetime.meaning.Disambiguation.{Disambiguation}
+use Rattle.tz.specs.declared.datetime.meaning.Disambiguation.TheVariants.{Compatible, Earlier, Later, Reject}
 use Rattle.tz.specs.declared.datetime.found.FoundDateTimeKind.{FoundDateTimeKind}
 use Rattle.tz.specs.declared.datetime.found.FoundDateTimeKind.TheVariants.{Normal, Skipped}
 

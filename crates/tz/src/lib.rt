@@ -84,7 +84,7 @@
 pub mod datetime;
 pub mod inner;
 pub mod laws;
-mod parse;
+pub(crate) mod parse;
 mod print;
 mod text_buffer;
 mod tz_string_writer;

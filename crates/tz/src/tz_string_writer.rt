@@ -13,6 +13,7 @@ use crate::text_buffer::TextBuffer;
 use std::fmt;
 use std::marker::Model;
 use tz_rule::laws::rule_parts_are_sound;
+use tz_zone::inner::{DEFAULT_HOUR, DEFAULT_SAVING};
 use tz_zone::timezone::{AlternateTime, LocalTimeType, RuleDay, TransitionRule};
 
 /// The TZ string of a rule, which is made without an allocation. (POSIX.1-2017, Base Definitions,
@@ -33,11 +34,8 @@ impl Model for TzString {
 /// Seconds of an hour.
 const HOUR: u32 = 3600;
 
-/// Two o'clock, the default time of day of a start or an end in a TZ string.
-const DEFAULT_TIME: i32 = 7200;
-
-/// How far daylight saving time is ahead of standard time, in seconds, if a TZ string does not say.
-const DEFAULT_SAVING: i32 = 3600;
+/// The default time of day of a start or an end in a TZ string, in seconds.
+const DEFAULT_TIME: i32 = 3600 * DEFAULT_HOUR as i32;
 
 /// The least offset in seconds that a TZ string cannot have.
 const LONG_OFFSET: i32 = 90_000;

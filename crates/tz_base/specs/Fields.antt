@@ -2,8 +2,8 @@
 use Rattle.std.specs.Prelude.{◌≡◌, ℕ, ◌+◌, ◌*◌, ◌<◌, ◌≤◌, ◌⊎◌, ℤ, pos, negsuc, ◌+ℤ◌, ◌*ℤ◌, ◌≤ℤ◌}
 use Rattle.tz_base.specs.Days.{is_leap, month_length, day_number}
 use Rattle.tz_base.specs.declared.fields.Fields.{Fields}
-use Rattle.tz_base.specs.declared.error.datetime.DateTimeError.{DateTimeError}
-use Rattle.tz_base.specs.declared.error.datetime.DateTimeError.TheVariants.{InvalidMonth, InvalidMonthDay, InvalidHour, InvalidMinute, InvalidSecond, InvalidNanoseconds}
+use Rattle.tz_base.specs.declared.error.DateTimeError.{DateTimeError}
+use Rattle.tz_base.specs.declared.error.DateTimeError.TheVariants.{InvalidMonth, InvalidMonthDay, InvalidHour, InvalidMinute, InvalidSecond, InvalidNanoseconds}
 
 -- the fields with these values, in the order in which calls take them
 abbrev pub fields_of : ℤ → ℕ → ℕ → ℕ → ℕ → ℕ → ℕ → Fields

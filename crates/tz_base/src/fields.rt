@@ -1,18 +1,23 @@
-//! The seven fields of a date time: their check, their reading, and the fields of a reading.
+//! The seven fields of a date time: their check, their reading, and the fields of a reading;
+//! instants as one total of nanoseconds, and as seconds and nanoseconds.
 //!
 //! A reading counts the seconds from 1970-01-01 00:00:00 to the fields of a date time, whatever
 //! clock shows them.
 
-ghost use Rattle.std.specs.Prelude.{◌≡◌, ◌<◌, ◌≤◌, pos, negsuc, ◌+ℤ◌, ◌-ℤ◌, ◌≤ℤ◌, OnOk, IfSome, IfNone, IfErr, MatchBool};
+ghost use Rattle.std.specs.Prelude.{◌≡◌, ◌<◌, ◌≤◌, pos, negsuc, ◌+ℤ◌, ◌-ℤ◌, ◌≤ℤ◌, OnOk, IfSome};
+ghost use Rattle.std.specs.Prelude.{IfNone, IfErr, MatchBool, ℕ, ℤ, FitsSigned};
+ghost use Rattle.std.specs.Int.{w64};
 ghost use Rattle.tz_base.specs.Days.{first_day, week_day_of};
-ghost use Rattle.tz_base.specs.Fields.{IsValid, IsFirstFault, IsCivil, IsReading, day_of, fields_of, reading as reading_of};
+ghost use Rattle.tz_base.specs.Fields.{IsValid, IsFirstFault, IsCivil, IsReading, day_of};
+ghost use Rattle.tz_base.specs.Fields.{fields_of, reading as reading_of, total_nanoseconds_of};
+ghost use Rattle.tz_base.specs.Fields.{IsTimespec};
 
 use crate::calendar::{
     date_of_day, days_before_month, days_since_unix_epoch, has_month_day, is_leap_year,
     moved_seconds, week_day_of_day,
 };
 use crate::constants::{NANOSECONDS_PER_SECOND, SECONDS_PER_DAY};
-use crate::error::datetime::DateTimeError;
+use crate::error::DateTimeError;
 
 /// The seven fields of a date time, in the order in which they are compared.
 #[repr(C)]
@@ -178,4 +183,28 @@ impl Fields {
     {
         days_before_month(is_leap_year(self.year), self.month) + self.month_day as u16 - 1
     }
+}
+
+/// Nanoseconds from 1970-01-01T00:00:00Z on.
+pub const fn total_nanoseconds(unix_time: i64, nanoseconds: u32) -> i128
+    ensures { result ≡ total_nanoseconds_of unix_time nanoseconds }
+{
+    NANOSECONDS_PER_SECOND as i128 * unix_time as i128 + nanoseconds as i128
+}
+
+/// The seconds of a total of nanoseconds, rounded down, and the nanoseconds that remain, if the
+/// seconds fit 64 bits.
+pub const fn timespec(total: i128) -> Option<(i64, u32)>
+    ensures found { IfSome result (λ t. IsTimespec total t.0 t.1) }
+    ensures none { IfNone result ((seconds : ℤ) (nanoseconds : ℕ)
+        → IsTimespec total seconds nanoseconds
+        → ¬ FitsSigned w64 seconds) }
+{
+    let nanoseconds_per_second = NANOSECONDS_PER_SECOND as i128;
+    let seconds = total.div_euclid(nanoseconds_per_second);
+    let nanoseconds = total.rem_euclid(nanoseconds_per_second) as u32;
+    if seconds < i64::MIN as i128 || seconds > i64::MAX as i128 {
+        return None;
+    }
+    Some((seconds as i64, nanoseconds))
 }

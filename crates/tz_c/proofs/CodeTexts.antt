@@ -6,15 +6,15 @@ use Rattle.std.specs.Str.Parse.{error_kind}
 use Rattle.std.specs.declared.num.IntErrorKind.{IntErrorKind}
 use Rattle.std.specs.declared.num.IntErrorKind.TheVariants as kinds
 use Rattle.std.proofs.lemmas.Bool.{eqb-true, leb-true, false≢true}
-use Rattle.tz_base.specs.declared.error.tz_error.TzError.{TzError}
-use Rattle.tz_base.specs.declared.error.tz_error.TzError.TheVariants as all
-use Rattle.tz_base.specs.declared.error.datetime.DateTimeError.TheVariants as fields
-use Rattle.tz_base.specs.declared.error.timezone.LocalTimeTypeError.TheVariants as types
-use Rattle.tz_base.specs.declared.error.timezone.TransitionRuleError.TheVariants as rules
-use Rattle.tz_base.specs.declared.error.timezone.TimeZoneError.TheVariants as zones
-use Rattle.tz_base.specs.declared.error.parse.ParseDataError.TheVariants as bytes
-use Rattle.tz_base.specs.declared.error.parse.TzStringError.TheVariants as strings
-use Rattle.tz_base.specs.declared.error.parse.TzFileError.TheVariants as files
+use Rattle.tz_base.specs.declared.error.TzError.{TzError}
+use Rattle.tz_base.specs.declared.error.TzError.TheVariants as all
+use Rattle.tz_base.specs.declared.error.DateTimeError.TheVariants as fields
+use Rattle.tz_base.specs.declared.error.LocalTimeTypeError.TheVariants as types
+use Rattle.tz_base.specs.declared.error.TransitionRuleError.TheVariants as rules
+use Rattle.tz_base.specs.declared.error.TimeZoneError.TheVariants as zones
+use Rattle.tz_base.specs.declared.error.ParseDataError.TheVariants as bytes
+use Rattle.tz_base.specs.declared.error.TzStringError.TheVariants as strings
+use Rattle.tz_base.specs.declared.error.TzFileError.TheVariants as files
 use Rattle.tz_c.specs.Codes.{code_of, number_code}
 use Rattle.tz_c.specs.ErrorTexts.{error_text, number_text, text_in, text_of_code, texts}
 

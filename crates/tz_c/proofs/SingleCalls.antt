@@ -7,9 +7,9 @@ use Rattle.std.proofs.lemmas.Int.{ints}
 use Rattle.std.proofs.lemmas.Option.{same_Some, slice_get-get_or, slice_get_cases, slice_get_within}
 use Rattle.tz_base.specs.Fields.{IsReading, reading}
 use Rattle.tz_base.specs.declared.fields.Fields.{Fields}
-use Rattle.tz_base.specs.declared.error.tz_error.TzError.{TzError}
-use Rattle.tz_base.specs.declared.error.datetime.DateTimeError.{DateTimeError}
-use Rattle.tz_base.specs.declared.error.datetime.DateTimeError.TheVariants as faults
+use Rattle.tz_base.specs.declared.error.TzError.{TzError}
+use Rattle.tz_base.specs.declared.error.DateTimeError.{DateTimeError}
+use Rattle.tz_base.specs.declared.error.DateTimeError.TheVariants as faults
 use Rattle.tz_base.proofs.LastSeconds.{valid_reading}
 use Rattle.tz_rule.specs.LocalTimeType.{LocalTimeType}
 use Rattle.tz_zone.specs.Clock.{IsClock, IsLookupFault, IsOver, IsTypeAfter}
@@ -20,7 +20,7 @@ use Rattle.tz.specs.DateTimes.{DateTime, IsClockFault, ShowsByClock}
 use Rattle.tz.specs.Meanings.{IsMeaning, IsMeaningFault, instant_meant}
 use Rattle.tz.specs.Plain.{date_time_data, date_time_of}
 use Rattle.tz.specs.declared.datetime.date_time.DateTimeData.{DateTimeData}
-use Rattle.tz.specs.declared.datetime.disambiguation.Disambiguation.{Disambiguation}
+use Rattle.tz.specs.declared.datetime.meaning.Disambiguation.{Disambiguation}
 use Rattle.tz.specs.declared.datetime.found.FoundDateTimeKind.TheVariants.{Normal, Skipped}
 use Rattle.tz.proofs.UniqueMeanings.{meaning_fault_unique, meaning_or_fault, meaning_unique}
 use Rattle.tz.proofs.UniqueResults.{clock_fault_unique, no_fault_where_shown, shown_unique}

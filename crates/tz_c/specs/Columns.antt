@@ -1,7 +1,7 @@
 -- What calls over whole columns answer: at each index what the call for one value does.
 use Rattle.std.specs.Prelude.{FitsSigned, ◌≡◌, ◌≢◌, ◌⊎◌, ℕ, ◌≤◌, ℤ, pos, negsuc, ◌+ℤ◌, ◌*ℤ◌, ◌≤ℤ◌, ◌<ℤ◌, List, length, Option, Some, None, slice_get}
 use Rattle.std.specs.Int.{w32}
-use Rattle.tz_base.specs.declared.error.tz_error.TzError.{TzError}
+use Rattle.tz_base.specs.declared.error.TzError.{TzError}
 use Rattle.tz_base.specs.declared.fields.Fields.{Fields}
 use Rattle.tz_base.specs.Days.{day_number, is_leap, month_length}
 use Rattle.tz_base.specs.Fields.{IsMonth, IsMonthDay}
@@ -10,7 +10,7 @@ use Rattle.tz_zone.specs.Clock.{IsClock, IsLookupFault}
 use Rattle.tz_zone.specs.Table.{Zone}
 use Rattle.tz.specs.DateTimes.{DateTime, IsClockFault, ShowsByClock}
 use Rattle.tz.specs.Meanings.{IsMeaning, IsMeaningFault}
-use Rattle.tz.specs.declared.datetime.disambiguation.Disambiguation.{Disambiguation}
+use Rattle.tz.specs.declared.datetime.meaning.Disambiguation.{Disambiguation}
 use Rattle.tz.specs.declared.datetime.date_time.DateTimeData.{DateTimeData}
 use Rattle.tz_c.specs.Codes.{IsAnswer, IsAnswerOr, buffer_length, code_of, no_date_time, unknown_choice}
 use Rattle.tz_c.specs.DateTimes.{CanBeSearched, IsDateTimeDataOf}

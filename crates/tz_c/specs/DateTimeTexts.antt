@@ -2,10 +2,10 @@
 use Rattle.std.specs.Prelude.{◌≡◌, ◌⊎◌, ℕ, false, pos, List, Some, None, if◌then◌else◌}
 use Rattle.tz.specs.DateTimeText.{IsDateTimeText, IsDateTimeTextFault}
 use Rattle.tz.specs.Plain.{IsUtcData}
-use Rattle.tz.specs.declared.parse.error.DateTimePart.{DateTimePart}
-use Rattle.tz.specs.declared.parse.error.DateTimePart.TheVariants as parts
-use Rattle.tz.specs.declared.parse.error.ParseDateTimeError.{ParseDateTimeError}
-use Rattle.tz.specs.declared.parse.parsed_date_time.ParsedDateTime.{ParsedDateTime}
+use Rattle.tz.specs.declared.parse.DateTimePart.{DateTimePart}
+use Rattle.tz.specs.declared.parse.DateTimePart.TheVariants as parts
+use Rattle.tz.specs.declared.parse.ParseDateTimeError.{ParseDateTimeError}
+use Rattle.tz.specs.declared.parse.ParsedDateTime.{ParsedDateTime}
 use Rattle.tz_c.specs.declared.date_times.ParsedData.{ParsedData}
 
 -- the local time and the offset that are written

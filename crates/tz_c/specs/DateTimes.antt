@@ -1,9 +1,9 @@
 -- What calls answer of date times and searches.
 use Rattle.std.specs.Prelude.{◌≡◌, ◌⊎◌, ℕ, zero, suc, ◌<◌, ◌≤◌, ℤ, ◌-ℤ◌, Option, Some, None}
 use Rattle.tz_base.specs.declared.fields.Fields.{Fields}
-use Rattle.tz_base.specs.declared.error.tz_error.TzError.{TzError}
-use Rattle.tz_base.specs.declared.error.tz_error.TzError.TheVariants as faults
-use Rattle.tz_base.specs.declared.error.datetime.DateTimeError.TheVariants as field_faults
+use Rattle.tz_base.specs.declared.error.TzError.{TzError}
+use Rattle.tz_base.specs.declared.error.TzError.TheVariants as faults
+use Rattle.tz_base.specs.declared.error.DateTimeError.TheVariants as field_faults
 use Rattle.tz_base.specs.Fields.{reading, IsValid}
 use Rattle.tz_rule.specs.LocalTimeType.{LocalTimeType}
 use Rattle.tz_zone.specs.Clock.{IsClock}
@@ -12,8 +12,8 @@ use Rattle.tz.specs.DateTimes.{DateTime, IsDateTime, IsUtcTotal}
 use Rattle.tz.specs.Found.{EachCanBeMade}
 use Rattle.tz.specs.Meanings.{IsMeaning, IsMeaningFault}
 use Rattle.tz.specs.Plain.{IsUtcData, date_time_of}
-use Rattle.tz.specs.declared.datetime.disambiguation.Disambiguation.{Disambiguation}
-use Rattle.tz.specs.declared.datetime.disambiguation.Disambiguation.TheVariants.{Compatible, Earlier, Later, Reject}
+use Rattle.tz.specs.declared.datetime.meaning.Disambiguation.{Disambiguation}
+use Rattle.tz.specs.declared.datetime.meaning.Disambiguation.TheVariants.{Compatible, Earlier, Later, Reject}
 use Rattle.tz.specs.declared.datetime.date_time.UtcData.{UtcData}
 use Rattle.tz.specs.declared.datetime.date_time.DateTimeData.{DateTimeData}
 use Rattle.tz_c.specs.Codes.{code_of, no_date_time, unknown_choice}

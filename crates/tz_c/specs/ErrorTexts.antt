@@ -3,24 +3,24 @@ use Rattle.std.specs.Prelude.{◌≡◌, ℕ, List, [], ◌∷◌, ◌++◌, ◌
 use Rattle.std.specs.Str.Parse.{error_kind}
 use Rattle.std.specs.declared.num.IntErrorKind.{IntErrorKind}
 use Rattle.std.specs.declared.num.IntErrorKind.TheVariants.{Empty as NoDigits}
-use Rattle.tz_base.specs.declared.error.tz_error.TzError.{TzError}
-use Rattle.tz_base.specs.declared.error.tz_error.TzError.TheVariants as all
-use Rattle.tz_base.specs.declared.error.datetime.DateTimeError.{DateTimeError}
-use Rattle.tz_base.specs.declared.error.datetime.DateTimeError.TheVariants as fields
-use Rattle.tz_base.specs.declared.error.timezone.LocalTimeTypeError.{LocalTimeTypeError}
-use Rattle.tz_base.specs.declared.error.timezone.LocalTimeTypeError.TheVariants as types
-use Rattle.tz_base.specs.declared.error.timezone.TransitionRuleError.{TransitionRuleError}
-use Rattle.tz_base.specs.declared.error.timezone.TransitionRuleError.TheVariants as rules
-use Rattle.tz_base.specs.declared.error.timezone.TimeZoneError.{TimeZoneError}
-use Rattle.tz_base.specs.declared.error.timezone.TimeZoneError.TheVariants as zones
-use Rattle.tz_base.specs.declared.error.parse.ParseDataError.{ParseDataError}
-use Rattle.tz_base.specs.declared.error.parse.ParseDataError.TheVariants as bytes
-use Rattle.tz_base.specs.declared.error.parse.TzStringError.{TzStringError}
-use Rattle.tz_base.specs.declared.error.parse.TzStringError.TheVariants as strings
-use Rattle.tz_base.specs.declared.error.parse.TzFileError.{TzFileError}
-use Rattle.tz_base.specs.declared.error.parse.TzFileError.TheVariants as files
-use Rattle.tz.specs.declared.parse.error.DateTimePart.{DateTimePart}
-use Rattle.tz.specs.declared.parse.error.DateTimePart.TheVariants as parts
+use Rattle.tz_base.specs.declared.error.TzError.{TzError}
+use Rattle.tz_base.specs.declared.error.TzError.TheVariants as all
+use Rattle.tz_base.specs.declared.error.DateTimeError.{DateTimeError}
+use Rattle.tz_base.specs.declared.error.DateTimeError.TheVariants as fields
+use Rattle.tz_base.specs.declared.error.LocalTimeTypeError.{LocalTimeTypeError}
+use Rattle.tz_base.specs.declared.error.LocalTimeTypeError.TheVariants as types
+use Rattle.tz_base.specs.declared.error.TransitionRuleError.{TransitionRuleError}
+use Rattle.tz_base.specs.declared.error.TransitionRuleError.TheVariants as rules
+use Rattle.tz_base.specs.declared.error.TimeZoneError.{TimeZoneError}
+use Rattle.tz_base.specs.declared.error.TimeZoneError.TheVariants as zones
+use Rattle.tz_base.specs.declared.error.ParseDataError.{ParseDataError}
+use Rattle.tz_base.specs.declared.error.ParseDataError.TheVariants as bytes
+use Rattle.tz_base.specs.declared.error.TzStringError.{TzStringError}
+use Rattle.tz_base.specs.declared.error.TzStringError.TheVariants as strings
+use Rattle.tz_base.specs.declared.error.TzFileError.{TzFileError}
+use Rattle.tz_base.specs.declared.error.TzFileError.TheVariants as files
+use Rattle.tz.specs.declared.parse.DateTimePart.{DateTimePart}
+use Rattle.tz.specs.declared.parse.DateTimePart.TheVariants as parts
 use Rattle.tz_c.specs.Codes.{unknown_code}
 use Rattle.tz_c.specs.Texts.{IsTextAnswer}
 

@@ -6,7 +6,7 @@ use Rattle.tz_rule.specs.Pairing.{IsConflict, IsInconsistent}
 use Rattle.tz_rule.specs.Rule.{IsRuleType}
 use Rattle.tz_rule.specs.declared.timezone.transition_rule.TransitionRule.{TransitionRule}
 use Rattle.tz_c.specs.Codes.{IsAnswerBy, IsAnswerOr, type_code, rule_code, no_rule, no_conflict}
-use Rattle.tz_c.specs.declared.rules.ConflictData.{ConflictData}
+use Rattle.tz_c.specs.declared.zones.ConflictData.{ConflictData}
 
 -- a name that is given, or none
 abbrev pub name_if : Bool → List ℕ → Option (List ℕ)

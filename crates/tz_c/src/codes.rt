@@ -3,24 +3,23 @@
 ghost use Rattle.std.specs.Prelude.{◌≡◌, ◌≢◌, ◌≤◌, List, ℕ, MatchOption, None, Some, length};
 ghost use Rattle.std.specs.Str.Parse.{error_kind};
 ghost use Rattle.tz_c.specs.Codes.{fields_code, type_code, rule_code, zone_code, string_bytes_code, number_code, string_code, file_bytes_code, file_code, code_of, buffer_length};
-ghost use Rattle.tz_base.specs.declared.error.tz_error.TzError.{TzError};
-ghost use Rattle.tz.specs.declared.parse.error.DateTimePart.{DateTimePart};
+ghost use Rattle.tz_base.specs.declared.error.TzError.{TzError};
+ghost use Rattle.tz.specs.declared.parse.DateTimePart.{DateTimePart};
 ghost use Rattle.tz_c.specs.DateTimeTexts.{part_code};
 ghost use Rattle.tz_c.specs.ErrorTexts.{IsCodeTextAnswer, error_text, expected_text, text_of_code};
 ghost use Rattle.tz_c.specs.Texts.{IsTextAnswer};
 ghost use Rattle.tz_c.specs.Layout.{layout};
 
 use crate::date_times::ParsedData;
-use crate::rules::ConflictData;
 use crate::texts::{SettingData, write_text};
 use crate::zone_data::ZoneData;
-use crate::zones::{ChangeData, OffsetsData, PartsData, SegmentData};
+use crate::zones::{ChangeData, ConflictData, OffsetsData, PartsData, SegmentData};
 use std::num::{IntErrorKind, ParseIntError};
 use tz::inner::{DateTimeData, Fields, FoundData, UtcData};
-use tz_base::error::TzError;
-use tz_base::error::datetime::DateTimeError;
-use tz_base::error::parse::{ParseDataError, TzFileError, TzStringError};
-use tz_base::error::timezone::{LocalTimeTypeError, TimeZoneError, TransitionRuleError};
+use tz_base::error::{
+    DateTimeError, LocalTimeTypeError, ParseDataError, TimeZoneError, TransitionRuleError, TzError,
+    TzFileError, TzStringError,
+};
 use tz_rule::inner::{AlternateData, DayData, RuleData};
 use tz_rule::timezone::LocalTimeType;
 use tz_zone::inner::FileSizes;

@@ -1,6 +1,6 @@
 //! Date times of a zone and of UTC, and their texts.
 
-ghost use Rattle.tz_base.specs.declared.error.tz_error.TzError.TheVariants as faults;
+ghost use Rattle.tz_base.specs.declared.error.TzError.TheVariants as faults;
 ghost use Rattle.std.specs.Prelude.{◌≡◌, ◌≢◌, ◌+ℤ◌, ◌-ℤ◌, pos, ◌*◌, ◌+◌, ◌<◌};
 ghost use Rattle.tz_base.specs.Days.{week_day_of, first_day};
 ghost use Rattle.tz_base.specs.Fields.{IsCivil, IsReading, day_of, reading};

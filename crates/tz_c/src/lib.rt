@@ -5,9 +5,7 @@
 mod codes;
 mod columns;
 mod date_times;
-mod files;
 pub mod laws;
-mod rules;
 mod searches;
 mod texts;
 mod zone_data;

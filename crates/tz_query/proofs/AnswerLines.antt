@@ -4,9 +4,9 @@ use Rattle.std.specs.Prelude.{codes, map, ⊤}
 use Rattle.std.proofs.lemmas.List.{take_more, map-append}
 use Rattle.std.proofs.lemmas.List.Elements.{All-nil, All-cons}
 use Rattle.tz_base.specs.declared.fields.Fields.{Fields}
-use Rattle.tz_base.specs.declared.error.tz_error.TzError.{TzError}
-use Rattle.tz_base.specs.declared.error.tz_error.TzError.TheVariants.{DateTime, OutOfRange}
-use Rattle.tz_base.specs.declared.error.datetime.DateTimeError.{DateTimeError}
+use Rattle.tz_base.specs.declared.error.TzError.{TzError}
+use Rattle.tz_base.specs.declared.error.TzError.TheVariants.{DateTime, OutOfRange}
+use Rattle.tz_base.specs.declared.error.DateTimeError.{DateTimeError}
 use Rattle.tz_zone.specs.Table.{Zone}
 use Rattle.tz.specs.DateTimes.{IsClockFault}
 use Rattle.tz.specs.FindFaults.{IsFindFault}

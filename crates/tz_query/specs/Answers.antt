@@ -4,10 +4,10 @@ use Rattle.std.specs.Fmt.{decimal}
 use Rattle.std.specs.List.{All, AllZip, flat_map}
 use Rattle.tz_base.specs.Fields.{IsFirstFault, IsValid, IsReading, reading}
 use Rattle.tz_base.specs.declared.fields.Fields.{Fields}
-use Rattle.tz_base.specs.declared.error.tz_error.TzError.{TzError}
-use Rattle.tz_base.specs.declared.error.tz_error.TzError.TheVariants.{DateTime as FieldFault, OutOfRange, NoAvailableLocalTimeType}
-use Rattle.tz_base.specs.declared.error.datetime.DateTimeError.{DateTimeError}
-use Rattle.tz_base.specs.declared.error.datetime.DateTimeError.TheVariants.{InvalidMonth, InvalidMonthDay, InvalidHour, InvalidMinute, InvalidSecond, InvalidNanoseconds}
+use Rattle.tz_base.specs.declared.error.TzError.{TzError}
+use Rattle.tz_base.specs.declared.error.TzError.TheVariants.{DateTime as FieldFault, OutOfRange, NoAvailableLocalTimeType}
+use Rattle.tz_base.specs.declared.error.DateTimeError.{DateTimeError}
+use Rattle.tz_base.specs.declared.error.DateTimeError.TheVariants.{InvalidMonth, InvalidMonthDay, InvalidHour, InvalidMinute, InvalidSecond, InvalidNanoseconds}
 use Rattle.tz_zone.specs.Clock.{IsClock}
 use Rattle.tz_zone.specs.Table.{Zone}
 use Rattle.tz_zone.specs.TzFile.{IsTzFile}

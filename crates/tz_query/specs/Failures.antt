@@ -2,8 +2,8 @@
 use Rattle.std.specs.Prelude.{◌≡◌, ℕ, ◌⊎◌, ℤ, List, [], ◌∷◌, Option, Err, codes, FitsSigned}
 use Rattle.std.specs.Int.{w32}
 use Rattle.anyhow.specs.declared.error.Error.{Error as Fault}
-use Rattle.tz_base.specs.declared.error.tz_error.Error.TheVariants.{Io}
-use Rattle.tz_base.specs.declared.error.tz_error.ReadFault.TheVariants.{Failed}
+use Rattle.tz_base.specs.declared.error.Error.TheVariants.{Io}
+use Rattle.tz_base.specs.declared.error.ReadFault.TheVariants.{Failed}
 use Rattle.tz_zone.specs.Settings.{Read, IsSettingsAnswer}
 use Rattle.tz_zone.specs.Table.{Zone}
 use Rattle.tz_query.specs.Numbers.{IsNumber}

@@ -4,9 +4,9 @@ use Rattle.std.specs.Prelude.{◌≡◌, ◌≢◌, ℕ, ◌⊎◌, ℤ, List, [
 use Rattle.std.specs.Borrow.{Bor}
 use Rattle.std.specs.Int.{w32}
 use Rattle.std.specs.declared.alloc.Global.{Global}
-use Rattle.tz_base.specs.declared.error.tz_error.Error.TheVariants.{Tz}
-use Rattle.tz_base.specs.declared.error.tz_error.TzError.{TzError}
-use Rattle.tz_base.specs.declared.error.tz_error.TzError.TheVariants.{Memory as NoMemory}
+use Rattle.tz_base.specs.declared.error.Error.TheVariants.{Tz}
+use Rattle.tz_base.specs.declared.error.TzError.{TzError}
+use Rattle.tz_base.specs.declared.error.TzError.TheVariants.{Memory as NoMemory}
 use Rattle.tz_rule.specs.LocalTimeType.{plain_type, IsOffset}
 use Rattle.tz_zone.specs.Settings.{Read, IsSettingsAnswer}
 use Rattle.tz_zone.specs.Table.{Zone, zone_with}

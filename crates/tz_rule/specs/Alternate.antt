@@ -2,8 +2,8 @@
 -- Definitions, 8.3: the TZ variable.)
 use Rattle.std.specs.Prelude.{◌≡◌, ◌⊎◌, Bool, ℤ, pos, negsuc, ◌+ℤ◌, ◌-ℤ◌, ◌*ℤ◌, ◌≤ℤ◌, ◌<ℤ◌, if◌then◌else◌}
 use Rattle.tz_base.specs.Days.{first_day}
-use Rattle.tz_base.specs.declared.error.timezone.TransitionRuleError.{TransitionRuleError}
-use Rattle.tz_base.specs.declared.error.timezone.TransitionRuleError.TheVariants.{InvalidStdUtcOffset, InvalidDstUtcOffset, InvalidDstStartEndTime, InconsistentRule}
+use Rattle.tz_base.specs.declared.error.TransitionRuleError.{TransitionRuleError}
+use Rattle.tz_base.specs.declared.error.TransitionRuleError.TheVariants.{InvalidStdUtcOffset, InvalidDstUtcOffset, InvalidDstStartEndTime, InconsistentRule}
 use Rattle.tz_rule.specs.LocalTimeType.{LocalTimeType}
 use Rattle.tz_rule.specs.RuleDays.{rule_day, IsRuleDay}
 use Rattle.tz_rule.specs.Pairing.{IsInconsistent, IsDaylight}

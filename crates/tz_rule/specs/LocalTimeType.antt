@@ -1,8 +1,8 @@
 -- What contracts see of a local time type. (RFC 8536, section 3.2: local time type records and time
 -- zone designations.)
 use Rattle.std.specs.Prelude.{◌≡◌, ◌≢◌, ℕ, ◌≤◌, ◌⊎◌, ℤ, negsuc, Bool, false, Option, None, List, [], length, All, IfSome, unwrap_or}
-use Rattle.tz_base.specs.declared.error.timezone.LocalTimeTypeError.{LocalTimeTypeError}
-use Rattle.tz_base.specs.declared.error.timezone.LocalTimeTypeError.TheVariants.{InvalidTimeZoneDesignationLength, InvalidTimeZoneDesignationChar, InvalidUtcOffset}
+use Rattle.tz_base.specs.declared.error.LocalTimeTypeError.{LocalTimeTypeError}
+use Rattle.tz_base.specs.declared.error.LocalTimeTypeError.TheVariants.{InvalidTimeZoneDesignationLength, InvalidTimeZoneDesignationChar, InvalidUtcOffset}
 
 -- seconds that are added to UTC, whether this is daylight saving time, and the bytes of its name,
 -- if it has one

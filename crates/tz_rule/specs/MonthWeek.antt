@@ -1,7 +1,7 @@
 -- What contracts see of a week day of a month. (POSIX.1-2017, Base Definitions, 8.3: Mm.w.d.)
 use Rattle.std.specs.Prelude.{ℕ, ◌≤◌}
-use Rattle.tz_base.specs.declared.error.timezone.TransitionRuleError.{TransitionRuleError}
-use Rattle.tz_base.specs.declared.error.timezone.TransitionRuleError.TheVariants.{InvalidRuleDayMonth, InvalidRuleDayWeek, InvalidRuleDayWeekDay}
+use Rattle.tz_base.specs.declared.error.TransitionRuleError.{TransitionRuleError}
+use Rattle.tz_base.specs.declared.error.TransitionRuleError.TheVariants.{InvalidRuleDayMonth, InvalidRuleDayWeek, InvalidRuleDayWeekDay}
 
 pub record MonthWeek : Type 0 where
   pub month : ℕ

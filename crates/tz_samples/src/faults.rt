@@ -1,8 +1,9 @@
 //! Refusals that can be compared.
 
-use tz_base::error::parse::{TzFileError, TzStringError};
-use tz_base::error::timezone::{LocalTimeTypeError, TimeZoneError, TransitionRuleError};
-use tz_base::error::{Error, TzError};
+use tz_base::error::{
+    Error, LocalTimeTypeError, TimeZoneError, TransitionRuleError, TzError, TzFileError,
+    TzStringError,
+};
 
 /// A refusal that can be compared.
 #[derive(Debug, Drop, PartialEq, Eq)]

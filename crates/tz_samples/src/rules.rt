@@ -3,8 +3,7 @@
 //! No proof walks through a static, which holds no type with a model, such as a rule. So tables of
 //! tests hold these rows, and functions make of them what they stand for.
 
-use tz_base::error::TzError;
-use tz_base::error::timezone::TransitionRuleError;
+use tz_base::error::{TransitionRuleError, TzError};
 use tz_rule::timezone::{
     AlternateTime, Julian0WithLeap, Julian1WithoutLeap, LocalTimeType, MonthWeekDay, RuleDay,
 };

@@ -3,7 +3,7 @@ use Rattle.std.proofs.Common.{◌≡◌, ◌≢◌, ℕ, ◌+◌, ◌<◌, false
 use Rattle.std.specs.Prelude.{Vec}
 use Rattle.std.specs.declared.alloc.Global.{Global}
 use Rattle.anyhow.specs.declared.error.Error.{Error as Fault}
-use Rattle.tz_base.specs.declared.error.tz_error.ReadFault.TheVariants.{Failed}
+use Rattle.tz_base.specs.declared.error.ReadFault.TheVariants.{Failed}
 use Rattle.std.proofs.Math.Seq.{drop-cons}
 use Rattle.std.specs.Borrow.{Bor}
 use Rattle.std.specs.Option.{MatchOption}

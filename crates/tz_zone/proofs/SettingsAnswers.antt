@@ -3,10 +3,10 @@ use Rattle.std.proofs.Common.{◌≡◌, ℕ, List, subst, sym, inl, inr, ◌⊎
 use Rattle.std.specs.Prelude.{alloc_error, Vec, vec_items}
 use Rattle.std.specs.Result.{MatchResult}
 use Rattle.std.specs.declared.alloc.Global.{Global}
-use Rattle.tz_base.specs.declared.error.tz_error.Error.{Error}
-use Rattle.tz_base.specs.declared.error.tz_error.Error.TheVariants.{Tz}
-use Rattle.tz_base.specs.declared.error.tz_error.ReadFault.TheVariants.{Memory}
-use Rattle.tz_base.specs.declared.error.tz_error.TzError.TheVariants.{Memory as NoMemory}
+use Rattle.tz_base.specs.declared.error.Error.{Error}
+use Rattle.tz_base.specs.declared.error.Error.TheVariants.{Tz}
+use Rattle.tz_base.specs.declared.error.ReadFault.TheVariants.{Memory}
+use Rattle.tz_base.specs.declared.error.TzError.TheVariants.{Memory as NoMemory}
 use Rattle.tz_zone.specs.Table.{Zone}
 use Rattle.tz_zone.specs.Settings.{Read, Answer, Opens, IsFileAnswer}
 

@@ -4,14 +4,14 @@ use Rattle.std.specs.Prelude.{FitsSigned}
 use Rattle.std.specs.Int.{w32}
 use Rattle.std.proofs.lemmas.Int.{to_z-of_z}
 use mir.Val.{to_z, of_z}
-use Rattle.tz_base.specs.declared.error.tz_error.TzError.{TzError}
-use Rattle.tz_base.specs.declared.error.tz_error.TzError.TheVariants.{TzString, LocalTimeType as TypeFault}
-use Rattle.tz_base.specs.declared.error.parse.TzStringError.{TzStringError}
-use Rattle.tz_base.specs.declared.error.timezone.LocalTimeTypeError.{LocalTimeTypeError}
+use Rattle.tz_base.specs.declared.error.TzError.{TzError}
+use Rattle.tz_base.specs.declared.error.TzError.TheVariants.{TzString, LocalTimeType as TypeFault}
+use Rattle.tz_base.specs.declared.error.TzStringError.{TzStringError}
+use Rattle.tz_base.specs.declared.error.LocalTimeTypeError.{LocalTimeTypeError}
 use Rattle.tz_rule.specs.Alternate.{alternate_of}
 use Rattle.tz_rule.specs.LocalTimeType.{LocalTimeType, IsFirstTypeFault, type_of}
 use Rattle.tz_zone.specs.Bytes.{comma}
-use Rattle.tz_zone.specs.declared.parse.tz_string.day_time.WrittenTime.{WrittenTime}
+use Rattle.tz_zone.specs.declared.parse.tz_string.WrittenTime.{WrittenTime}
 use Rattle.tz_zone.specs.TzText.{IsName, IsSignedTime, IsDaylightOffset, IsRuleText, AlternateText, IsAlternateText, std_type_of, dst_type_of, seconds_of, rule_of}
 use Rattle.tz_zone.specs.TzTextFault.{IsOffsetFault, IsNameFault, IsDaylightFault, IsRulesFault, IsTzTextFault}
 

@@ -1,9 +1,9 @@
 -- Faults of a month, a week and a week day.
 use Rattle.std.proofs.Common.{ℕ, List, ◌∷◌, refl, inl, inr}
-use Rattle.tz_base.specs.declared.error.tz_error.TzError.{TzError}
-use Rattle.tz_base.specs.declared.error.tz_error.TzError.TheVariants.{TransitionRule}
-use Rattle.tz_base.specs.declared.error.timezone.TransitionRuleError.{TransitionRuleError}
-use Rattle.tz_base.specs.declared.error.timezone.TransitionRuleError.TheVariants.{InvalidRuleDayMonth, InvalidRuleDayWeek, InvalidRuleDayWeekDay}
+use Rattle.tz_base.specs.declared.error.TzError.{TzError}
+use Rattle.tz_base.specs.declared.error.TzError.TheVariants.{TransitionRule}
+use Rattle.tz_base.specs.declared.error.TransitionRuleError.{TransitionRuleError}
+use Rattle.tz_base.specs.declared.error.TransitionRuleError.TheVariants.{InvalidRuleDayMonth, InvalidRuleDayWeek, InvalidRuleDayWeekDay}
 use Rattle.tz_rule.specs.MonthWeek.{MonthWeek, IsRuleWeek, IsRuleWeekDay, IsFirstMonthWeekFault}
 use Rattle.tz_zone.specs.Bytes.{dot}
 use Rattle.tz_zone.specs.TzText.{IsNumber, IsMonthWeekText}

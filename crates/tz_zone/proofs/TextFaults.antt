@@ -2,14 +2,14 @@
 use Rattle.std.proofs.Common.{◌≡◌, ◌≢◌, ◌⊎◌, ℕ, ◌^◌, ◌<◌, ◌≤◌, Bool, true, false, List, [], ◌∷◌, ◌++◌, refl, sym, ap, ◌∙◌, subst, inl, inr, arith, Option, Some, None, Result, Ok, Err, pos}
 use Rattle.std.specs.Option.{IfSome}
 use Rattle.std.specs.Result.{MatchResult}
-use Rattle.tz_base.specs.declared.error.tz_error.TzError.{TzError}
-use Rattle.tz_base.specs.declared.error.parse.ParseDataError.{ParseDataError}
-use Rattle.tz_base.specs.declared.error.parse.ParseDataError.TheVariants.{UnexpectedEof, InvalidData}
-use Rattle.tz_base.specs.declared.error.parse.TzStringError.{TzStringError}
-use Rattle.tz_base.specs.declared.error.timezone.LocalTimeTypeError.{LocalTimeTypeError}
-use Rattle.tz_base.specs.declared.error.timezone.LocalTimeTypeError.TheVariants.{InvalidTimeZoneDesignationLength, InvalidTimeZoneDesignationChar, InvalidUtcOffset}
-use Rattle.tz_base.specs.declared.error.timezone.TransitionRuleError.{TransitionRuleError}
-use Rattle.tz_base.specs.declared.error.timezone.TransitionRuleError.TheVariants.{InvalidRuleDayJulianDay, InvalidRuleDayMonth, InvalidRuleDayWeek, InvalidRuleDayWeekDay, InvalidStdUtcOffset, InvalidDstUtcOffset, InvalidDstStartEndTime}
+use Rattle.tz_base.specs.declared.error.TzError.{TzError}
+use Rattle.tz_base.specs.declared.error.ParseDataError.{ParseDataError}
+use Rattle.tz_base.specs.declared.error.ParseDataError.TheVariants.{UnexpectedEof, InvalidData}
+use Rattle.tz_base.specs.declared.error.TzStringError.{TzStringError}
+use Rattle.tz_base.specs.declared.error.LocalTimeTypeError.{LocalTimeTypeError}
+use Rattle.tz_base.specs.declared.error.LocalTimeTypeError.TheVariants.{InvalidTimeZoneDesignationLength, InvalidTimeZoneDesignationChar, InvalidUtcOffset}
+use Rattle.tz_base.specs.declared.error.TransitionRuleError.{TransitionRuleError}
+use Rattle.tz_base.specs.declared.error.TransitionRuleError.TheVariants.{InvalidRuleDayJulianDay, InvalidRuleDayMonth, InvalidRuleDayWeek, InvalidRuleDayWeekDay, InvalidStdUtcOffset, InvalidDstUtcOffset, InvalidDstStartEndTime}
 use Rattle.tz_rule.specs.LocalTimeType.{IsDesignation, IsFirstTypeFault, type_of}
 use Rattle.tz_rule.specs.Alternate.{AlternateTime, IsInRuleRange, IsConsistentRule, IsRangeFault, IsFirstRuleFault}
 use Rattle.tz_rule.specs.JulianDay.{IsJulianDay, IsZeroBasedDay}
@@ -19,8 +19,8 @@ use Rattle.tz_rule.specs.declared.timezone.transition_rule.TransitionRule.TheVar
 use Rattle.tz_rule.specs.declared.timezone.rule_day.RuleDay.{RuleDay}
 use Rattle.tz_rule.specs.declared.timezone.rule_day.RuleDay.TheVariants.{Julian1WithoutLeap, Julian0WithLeap, MonthWeekDay}
 use Rattle.tz_zone.specs.Bytes.{capital_j, capital_m, closing_bracket, comma, dot, slash}
-use Rattle.tz_zone.specs.declared.parse.tz_string.day_time.DayAndTime.{DayAndTime}
-use Rattle.tz_zone.specs.declared.parse.tz_string.day_time.WrittenTime.{WrittenTime}
+use Rattle.tz_zone.specs.declared.parse.tz_string.DayAndTime.{DayAndTime}
+use Rattle.tz_zone.specs.declared.parse.tz_string.WrittenTime.{WrittenTime}
 use Rattle.tz_zone.specs.TzText.{Begins, IsNumber, IsName, IsPart, IsHms, IsSign, IsSignedTime, IsDayTimeSign, IsDayTime, IsMonthWeekText, IsDay, IsRuleText, IsDaylightOffset, IsTimeUpTo, offset_hours, day_time_hours, IsRuleInRange, IsNameAndOffset, AlternateText, IsAlternateText, IsAlternateInRange, std_type_of, rule_of, IsTzText}
 use Rattle.tz_rule.specs.RuleDays.{IsRuleDay}
 use Rattle.tz_zone.specs.TzTextFault.{Reached, IsMissingByte, IsNumberFault, TimeFaults, day_time_faults, offset_faults}

@@ -17,7 +17,7 @@ use Rattle.std.specs.Str.Parse.{digits_value, error_kind, starts_with_minus, Par
 use Rattle.std.specs.Str.Parse.{IsParseIntError, ExplainsUnsignedError, ExplainsSignedError}
 use Rattle.std.specs.declared.num.IntErrorKind.TheVariants.{PosOverflow}
 use Rattle.std.specs.declared.num.ParseIntError.{ParseIntError}
-use Rattle.tz_base.specs.declared.error.parse.TzStringError.TheVariants.{ParseInt}
+use Rattle.tz_base.specs.declared.error.TzStringError.TheVariants.{ParseInt}
 use Rattle.tz_zone.specs.TzText.{IsRun, IsNumber}
 use Rattle.tz_zone.specs.TzTextFault.{IsNumberFault}
 

@@ -10,8 +10,8 @@ use Rattle.tz_rule.specs.MonthWeek.{month_week}
 use Rattle.tz_rule.specs.declared.timezone.rule_day.RuleDay.{RuleDay}
 use Rattle.tz_rule.specs.declared.timezone.rule_day.RuleDay.TheVariants.{Julian1WithoutLeap, Julian0WithLeap, MonthWeekDay}
 use Rattle.tz_zone.specs.Bytes.{capital_j, capital_m, comma, dot}
-use Rattle.tz_zone.specs.declared.parse.tz_string.day_time.DayAndTime.{DayAndTime}
-use Rattle.tz_zone.specs.declared.parse.tz_string.day_time.WrittenTime.{WrittenTime}
+use Rattle.tz_zone.specs.declared.parse.tz_string.DayAndTime.{DayAndTime}
+use Rattle.tz_zone.specs.declared.parse.tz_string.WrittenTime.{WrittenTime}
 use Rattle.tz_zone.specs.TzText.{IsRun, IsNumber, IsName, IsPart, IsHms, IsSign, IsSignedTime, IsDayTimeSign, IsDayTime, IsMonthWeekText, IsDay, IsTimeOfRule, IsRuleText, IsDaylightOffset, IsNameAndOffset, AlternateText, IsAlternateText}
 
 abbrev pub IsOne : {A : Type 0} → (List ℕ → A → List ℕ → Type 0) → Type 0

@@ -2,14 +2,14 @@
 use Rattle.std.proofs.Common.{◌≡◌, ℕ, length, Bool, List, Option, Some, None, Result, Ok, Err, refl, sym, ap, subst, ◌∙◌, inl, inr, arith}
 use Rattle.std.specs.Prelude.{IfOk, OnOk, alloc_error}
 use Rattle.std.specs.Int.{Width, w32, w64}
-use Rattle.tz_base.specs.declared.error.tz_error.TzError.{TzError}
-use Rattle.tz_base.specs.declared.error.tz_error.TzError.TheVariants.{TzFile, LocalTimeType as TypeFault, Memory}
-use Rattle.tz_base.specs.declared.error.parse.ParseDataError.TheVariants.{UnexpectedEof}
-use Rattle.tz_base.specs.declared.error.parse.TzFileError.{TzFileError}
-use Rattle.tz_base.specs.declared.error.parse.TzFileError.TheVariants.{ParseData, InvalidMagicNumber, UnsupportedTzFileVersion, InvalidHeader, InvalidDstIndicator, InvalidTimeZoneDesignationCharIndex, Utf8, InvalidFooter}
-use Rattle.tz_base.specs.declared.error.timezone.TimeZoneError.{TimeZoneError}
-use Rattle.tz_base.specs.declared.error.timezone.LocalTimeTypeError.{LocalTimeTypeError}
-use Rattle.tz_base.specs.declared.error.timezone.LocalTimeTypeError.TheVariants.{InvalidTimeZoneDesignationLength, InvalidTimeZoneDesignationChar, InvalidUtcOffset}
+use Rattle.tz_base.specs.declared.error.TzError.{TzError}
+use Rattle.tz_base.specs.declared.error.TzError.TheVariants.{TzFile, LocalTimeType as TypeFault, Memory}
+use Rattle.tz_base.specs.declared.error.ParseDataError.TheVariants.{UnexpectedEof}
+use Rattle.tz_base.specs.declared.error.TzFileError.{TzFileError}
+use Rattle.tz_base.specs.declared.error.TzFileError.TheVariants.{ParseData, InvalidMagicNumber, UnsupportedTzFileVersion, InvalidHeader, InvalidDstIndicator, InvalidTimeZoneDesignationCharIndex, Utf8, InvalidFooter}
+use Rattle.tz_base.specs.declared.error.TimeZoneError.{TimeZoneError}
+use Rattle.tz_base.specs.declared.error.LocalTimeTypeError.{LocalTimeTypeError}
+use Rattle.tz_base.specs.declared.error.LocalTimeTypeError.TheVariants.{InvalidTimeZoneDesignationLength, InvalidTimeZoneDesignationChar, InvalidUtcOffset}
 use Rattle.tz_rule.specs.LocalTimeType.{LocalTimeType, IsDesignation, IsLocalTimeType, IsFirstTypeFault}
 use Rattle.tz_rule.specs.declared.timezone.transition_rule.TransitionRule.{TransitionRule}
 use Rattle.tz_rule.proofs.WeakerClauses.{IfSome-weaker}
@@ -19,7 +19,7 @@ use Rattle.tz_zone.specs.TzFile.{IsHeader, IsUnit, IsTypeRecord, IsContent, IsFr
 use Rattle.tz_zone.specs.TzFileFault.{HeaderFails, UnitFails, FrameFails, FooterFails, ExtraRuleFails, TypeFails, ContentFails, FileFails, IsReadFault}
 use Rattle.tz_zone.specs.TzParts.{HasTables}
 use Rattle.tz_zone.proofs.TextFaults.{no_text_fault, one_rule}
-use Rattle.tz_zone.specs.declared.parse.tz_file.tables.Tables.{Tables}
+use Rattle.tz_zone.specs.declared.parse.tz_file.Tables.{Tables}
 
 -- the parts of a zone, from the tables that were read
 pub zone_of_tables : {A : Type 0} (p : Part) (t : Tables A) (rule : Option TransitionRule) → HasTables p t

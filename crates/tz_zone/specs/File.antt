@@ -3,8 +3,8 @@ use Rattle.std.specs.Prelude.{◌≡◌, ℕ, ◌≤◌, List, length}
 use Rattle.std.specs.Io.KnownBytes.{Consumes, IsAtEnd}
 use Rattle.std.specs.declared.option.Option.{Option}
 use Rattle.anyhow.specs.declared.error.Error.{Error}
-use Rattle.tz_base.specs.declared.error.tz_error.ReadFault.{ReadFault}
-use Rattle.tz_base.specs.declared.error.tz_error.ReadFault.TheVariants.{Failed}
+use Rattle.tz_base.specs.declared.error.ReadFault.{ReadFault}
+use Rattle.tz_base.specs.declared.error.ReadFault.TheVariants.{Failed}
 
 -- the file could not be read
 abbrev pub IsFailed : ReadFault → Type 0

@@ -1,7 +1,7 @@
 -- How many entries the tables of a TZif file have. (RFC 8536, section 3.1)
 use Rattle.std.specs.Prelude.{◌≡◌, ℕ, List, Option, Some, None, length}
 use Rattle.tz_zone.specs.TzFile.{part_of, footer_of}
-use Rattle.tz_zone.specs.declared.parse.tz_file.frame.FileSizes.{FileSizes}
+use Rattle.tz_zone.specs.declared.parse.tz_file.FileSizes.{FileSizes}
 
 -- the length of a footer, if there is one
 abbrev pub footer_length : Option (List ℕ) → ℕ

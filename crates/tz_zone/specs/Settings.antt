@@ -7,13 +7,13 @@ use Rattle.std.specs.Borrow.{Bor}
 use Rattle.std.specs.Str.{IsTrimAscii}
 use Rattle.std.specs.declared.alloc.Global.{Global}
 use Rattle.anyhow.specs.declared.error.Error.{Error as Fault}
-use Rattle.tz_base.specs.declared.error.tz_error.Error.{Error}
-use Rattle.tz_base.specs.declared.error.tz_error.Error.TheVariants.{Io, Tz}
-use Rattle.tz_base.specs.declared.error.tz_error.ReadFault.{ReadFault}
-use Rattle.tz_base.specs.declared.error.tz_error.ReadFault.TheVariants.{Memory, Failed}
-use Rattle.tz_base.specs.declared.error.tz_error.TzError.{TzError}
-use Rattle.tz_base.specs.declared.error.tz_error.TzError.TheVariants.{TzString, Memory as NoMemory}
-use Rattle.tz_base.specs.declared.error.parse.TzStringError.TheVariants.{Empty}
+use Rattle.tz_base.specs.declared.error.Error.{Error}
+use Rattle.tz_base.specs.declared.error.Error.TheVariants.{Io, Tz}
+use Rattle.tz_base.specs.declared.error.ReadFault.{ReadFault}
+use Rattle.tz_base.specs.declared.error.ReadFault.TheVariants.{Memory, Failed}
+use Rattle.tz_base.specs.declared.error.TzError.{TzError}
+use Rattle.tz_base.specs.declared.error.TzError.TheVariants.{TzString, Memory as NoMemory}
+use Rattle.tz_base.specs.declared.error.TzStringError.TheVariants.{Empty}
 use Rattle.tz_rule.specs.declared.timezone.transition_rule.TransitionRule.{TransitionRule}
 use Rattle.tz_rule.specs.declared.timezone.transition_rule.TransitionRule.TheVariants.{Fixed, Alternate}
 use Rattle.tz_zone.specs.Bytes.{colon, slash}

@@ -3,12 +3,12 @@
 -- headers and blocks are, and one of the zone's checks when all else is.
 use Rattle.std.specs.Prelude.{◌≡◌, ◌≢◌, ℕ, ◌+◌, ◌*◌, ◌<◌, ◌≤◌, ◌⊎◌, Bool, List, [], length, Option, Some, None, IsUtf8, slice_index, alloc_error}
 use Rattle.std.specs.Int.{Width, w32, w64}
-use Rattle.tz_base.specs.declared.error.tz_error.TzError.{TzError}
-use Rattle.tz_base.specs.declared.error.tz_error.TzError.TheVariants.{TzFile, TimeZone, LocalTimeType as TypeFault, Memory}
-use Rattle.tz_base.specs.declared.error.parse.ParseDataError.TheVariants.{UnexpectedEof}
-use Rattle.tz_base.specs.declared.error.parse.TzFileError.{TzFileError}
-use Rattle.tz_base.specs.declared.error.parse.TzFileError.TheVariants.{ParseData, InvalidMagicNumber, UnsupportedTzFileVersion, InvalidHeader, InvalidDstIndicator, InvalidTimeZoneDesignationCharIndex, InvalidStdWallUtLocal, RemainingDataV1, Utf8, InvalidFooter}
-use Rattle.tz_base.specs.declared.error.timezone.TimeZoneError.TheVariants.{InvalidLeapSecond}
+use Rattle.tz_base.specs.declared.error.TzError.{TzError}
+use Rattle.tz_base.specs.declared.error.TzError.TheVariants.{TzFile, TimeZone, LocalTimeType as TypeFault, Memory}
+use Rattle.tz_base.specs.declared.error.ParseDataError.TheVariants.{UnexpectedEof}
+use Rattle.tz_base.specs.declared.error.TzFileError.{TzFileError}
+use Rattle.tz_base.specs.declared.error.TzFileError.TheVariants.{ParseData, InvalidMagicNumber, UnsupportedTzFileVersion, InvalidHeader, InvalidDstIndicator, InvalidTimeZoneDesignationCharIndex, InvalidStdWallUtLocal, RemainingDataV1, Utf8, InvalidFooter}
+use Rattle.tz_base.specs.declared.error.TimeZoneError.TheVariants.{InvalidLeapSecond}
 use Rattle.tz_rule.specs.LocalTimeType.{IsFirstTypeFault}
 use Rattle.tz_rule.specs.declared.timezone.transition_rule.TransitionRule.{TransitionRule}
 use Rattle.tz_zone.specs.TzTextFault.{IsTzTextFault}

@@ -2,12 +2,12 @@
 use Rattle.std.specs.Prelude.{◌≡◌, ◌+◌, ◌*◌, length}
 use Rattle.std.specs.Int.{Width, w32, w64, byte_len}
 use Rattle.tz_zone.specs.TzFile.{Counts, Block, Part, transitions_of, types_of, leaps_of}
-use Rattle.tz_zone.specs.declared.parse.tz_file.tables.Tables.{Tables}
-use Rattle.tz_zone.specs.declared.parse.tz_file.frame.Block.{Block as BlockSlices}
-use Rattle.tz_zone.specs.declared.parse.tz_file.frame.Unit.{Unit as UnitSlices}
-use Rattle.tz_zone.specs.declared.parse.tz_file.header.Counts.{Counts as CountFields}
-use Rattle.tz_zone.specs.declared.parse.tz_file.header.TimeSize.{TimeSize}
-use Rattle.tz_zone.specs.declared.parse.tz_file.header.TimeSize.TheVariants.{Four, Eight}
+use Rattle.tz_zone.specs.declared.parse.tz_file.Tables.{Tables}
+use Rattle.tz_zone.specs.declared.parse.tz_file.Block.{Block as BlockSlices}
+use Rattle.tz_zone.specs.declared.parse.tz_file.Unit.{Unit as UnitSlices}
+use Rattle.tz_zone.specs.declared.parse.tz_file.Counts.{Counts as CountFields}
+use Rattle.tz_zone.specs.declared.parse.tz_file.TimeSize.{TimeSize}
+use Rattle.tz_zone.specs.declared.parse.tz_file.TimeSize.TheVariants.{Four, Eight}
 
 -- the width of a time
 abbrev pub width_of : TimeSize → Width

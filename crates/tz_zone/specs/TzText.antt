@@ -14,8 +14,8 @@ use Rattle.tz_rule.specs.declared.timezone.rule_day.RuleDay.TheVariants.{Julian1
 use Rattle.tz_rule.specs.declared.timezone.transition_rule.TransitionRule.{TransitionRule}
 use Rattle.tz_rule.specs.declared.timezone.transition_rule.TransitionRule.TheVariants.{Fixed, Alternate as Alternating}
 use Rattle.tz_zone.specs.Bytes.{capital_j, capital_m, closing_bracket, colon, comma, dot, minus_sign, opening_bracket, plus_sign, slash}
-use Rattle.tz_zone.specs.declared.parse.tz_string.day_time.DayAndTime.{DayAndTime}
-use Rattle.tz_zone.specs.declared.parse.tz_string.day_time.WrittenTime.{WrittenTime}
+use Rattle.tz_zone.specs.declared.parse.tz_string.DayAndTime.{DayAndTime}
+use Rattle.tz_zone.specs.declared.parse.tz_string.WrittenTime.{WrittenTime}
 
 -- a time as it is written, and a day with a time: the reader's own types, which the crates above
 -- name so

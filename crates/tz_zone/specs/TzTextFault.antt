@@ -8,21 +8,21 @@ use Rattle.std.specs.Str.Parse.{error_kind}
 use Rattle.std.specs.declared.num.IntErrorKind.{IntErrorKind}
 use Rattle.std.specs.declared.num.IntErrorKind.TheVariants.{Empty as NoDigits, PosOverflow}
 use Rattle.std.specs.declared.num.ParseIntError.{ParseIntError}
-use Rattle.tz_base.specs.declared.error.tz_error.TzError.{TzError}
-use Rattle.tz_base.specs.declared.error.tz_error.TzError.TheVariants.{TzString, LocalTimeType as TypeFault, TransitionRule}
-use Rattle.tz_base.specs.declared.error.parse.ParseDataError.{ParseDataError}
-use Rattle.tz_base.specs.declared.error.parse.ParseDataError.TheVariants.{UnexpectedEof, InvalidData}
-use Rattle.tz_base.specs.declared.error.parse.TzStringError.{TzStringError}
-use Rattle.tz_base.specs.declared.error.parse.TzStringError.TheVariants.{ParseInt, ParseData, InvalidOffsetHour, InvalidOffsetMinute, InvalidOffsetSecond, InvalidDayTimeHour, InvalidDayTimeMinute, InvalidDayTimeSecond, MissingDstStartEndRules, RemainingData}
-use Rattle.tz_base.specs.declared.error.timezone.LocalTimeTypeError.{LocalTimeTypeError}
-use Rattle.tz_base.specs.declared.error.timezone.TransitionRuleError.{TransitionRuleError}
-use Rattle.tz_base.specs.declared.error.timezone.TransitionRuleError.TheVariants.{InvalidRuleDayJulianDay, InvalidRuleDayMonth, InvalidRuleDayWeek, InvalidRuleDayWeekDay}
+use Rattle.tz_base.specs.declared.error.TzError.{TzError}
+use Rattle.tz_base.specs.declared.error.TzError.TheVariants.{TzString, LocalTimeType as TypeFault, TransitionRule}
+use Rattle.tz_base.specs.declared.error.ParseDataError.{ParseDataError}
+use Rattle.tz_base.specs.declared.error.ParseDataError.TheVariants.{UnexpectedEof, InvalidData}
+use Rattle.tz_base.specs.declared.error.TzStringError.{TzStringError}
+use Rattle.tz_base.specs.declared.error.TzStringError.TheVariants.{ParseInt, ParseData, InvalidOffsetHour, InvalidOffsetMinute, InvalidOffsetSecond, InvalidDayTimeHour, InvalidDayTimeMinute, InvalidDayTimeSecond, MissingDstStartEndRules, RemainingData}
+use Rattle.tz_base.specs.declared.error.LocalTimeTypeError.{LocalTimeTypeError}
+use Rattle.tz_base.specs.declared.error.TransitionRuleError.{TransitionRuleError}
+use Rattle.tz_base.specs.declared.error.TransitionRuleError.TheVariants.{InvalidRuleDayJulianDay, InvalidRuleDayMonth, InvalidRuleDayWeek, InvalidRuleDayWeekDay}
 use Rattle.tz_rule.specs.LocalTimeType.{IsFirstTypeFault, type_of}
 use Rattle.tz_rule.specs.JulianDay.{IsJulianDay, IsZeroBasedDay}
 use Rattle.tz_rule.specs.MonthWeek.{IsRuleMonth, IsRuleWeek, IsRuleWeekDay}
 use Rattle.tz_rule.specs.Alternate.{IsFirstRuleFault}
 use Rattle.tz_zone.specs.Bytes.{capital_j, capital_m, colon, comma, dot, opening_bracket, slash}
-use Rattle.tz_zone.specs.declared.parse.tz_string.day_time.WrittenTime.{WrittenTime}
+use Rattle.tz_zone.specs.declared.parse.tz_string.WrittenTime.{WrittenTime}
 use Rattle.tz_zone.specs.TzText.{Begins, IsRun, IsNumber, is_in_brackets, IsName, IsPart, IsHms, IsSign, IsSignedTime, IsDayTimeSign, IsDay, IsRuleText, IsDaylightOffset, AlternateText, IsAlternateText, IsAlternateInRange, offset_hours, day_time_hours, rule_of}
 
 -- something is read at the front, and this holds of it and of the bytes after

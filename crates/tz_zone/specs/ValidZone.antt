@@ -3,10 +3,10 @@
 use Rattle.std.specs.Prelude.{◌≡◌, ◌≢◌, ℕ, ◌+◌, ◌<◌, ◌⊎◌, ℤ, pos, ◌+ℤ◌, ◌-ℤ◌, ◌≤ℤ◌, ◌<ℤ◌, List, [], length, Some, slice_get, FitsSigned}
 use Rattle.std.specs.Int.{w32}
 use Rattle.std.proofs.Props.{props}
-use Rattle.tz_base.specs.declared.error.tz_error.TzError.{TzError}
-use Rattle.tz_base.specs.declared.error.tz_error.TzError.TheVariants.{TimeZone, OutOfRange}
-use Rattle.tz_base.specs.declared.error.timezone.TimeZoneError.{TimeZoneError}
-use Rattle.tz_base.specs.declared.error.timezone.TimeZoneError.TheVariants.{NoLocalTimeType, InvalidLocalTimeTypeIndex, InvalidTransition, InvalidLeapSecond, InconsistentExtraRule}
+use Rattle.tz_base.specs.declared.error.TzError.{TzError}
+use Rattle.tz_base.specs.declared.error.TzError.TheVariants.{TimeZone, OutOfRange}
+use Rattle.tz_base.specs.declared.error.TimeZoneError.{TimeZoneError}
+use Rattle.tz_base.specs.declared.error.TimeZoneError.TheVariants.{NoLocalTimeType, InvalidLocalTimeTypeIndex, InvalidTransition, InvalidLeapSecond, InconsistentExtraRule}
 use Rattle.tz_rule.specs.LocalTimeType.{LocalTimeType}
 use Rattle.tz_rule.specs.Rule.{IsRuleType}
 use Rattle.tz_rule.specs.declared.timezone.transition_rule.TransitionRule.{TransitionRule}

@@ -8,8 +8,8 @@ use Rattle.std.specs.Fn.{Shared}
 use Rattle.std.specs.Fmt.Cut.{IsTextOrCut}
 use Rattle.anyhow.specs.Error.{error_message, text_room}
 use Rattle.anyhow.specs.declared.error.Error.{Error as Fault}
-use Rattle.tz_base.specs.declared.error.tz_error.Error.TheVariants.{Io}
-use Rattle.tz_base.specs.declared.error.tz_error.ReadFault.TheVariants.{Memory, Failed}
+use Rattle.tz_base.specs.declared.error.Error.TheVariants.{Io}
+use Rattle.tz_base.specs.declared.error.ReadFault.TheVariants.{Memory, Failed}
 use Rattle.tz_zone.specs.Bytes.{dot, slash}
 use Rattle.tz_zone.specs.Settings.{Read, Answer, FindsIn, Opens, path_in}
 

@@ -5,6 +5,6 @@ mod clock;
 pub mod inner;
 pub mod laws;
 mod leap;
-mod parse;
+pub(crate) mod parse;
 mod table;
 pub mod timezone;

@@ -5,32 +5,32 @@ use std::alloc::{AllocError, Global};
 use std::fmt::Display;
 use std::process::Abort;
 use std::test::Fail;
-use tz_base::error::datetime::DateTimeError;
-use tz_base::error::datetime::DateTimeError::{
+use tz_base::error::DateTimeError::{
     InvalidHour, InvalidMinute, InvalidMonth, InvalidMonthDay, InvalidNanoseconds, InvalidSecond,
 };
-use tz_base::error::parse::TzFileError::{
-    InvalidDstIndicator, InvalidFooter, InvalidHeader, InvalidMagicNumber, InvalidStdWallUtLocal,
-    InvalidTimeZoneDesignationCharIndex, RemainingDataV1, UnsupportedTzFileVersion,
-};
-use tz_base::error::parse::TzStringError::{
-    Empty, InvalidDayTimeHour, InvalidDayTimeMinute, InvalidDayTimeSecond, InvalidOffsetHour,
-    InvalidOffsetMinute, InvalidOffsetSecond, MissingDstStartEndRules, RemainingData,
-};
-use tz_base::error::parse::{ParseDataError, TzFileError, TzStringError};
-use tz_base::error::timezone::LocalTimeTypeError::{
+use tz_base::error::LocalTimeTypeError::{
     InvalidTimeZoneDesignationChar, InvalidTimeZoneDesignationLength, InvalidUtcOffset,
 };
-use tz_base::error::timezone::TimeZoneError::{
+use tz_base::error::TimeZoneError::{
     InconsistentExtraRule, InvalidLeapSecond, InvalidLocalTimeTypeIndex, InvalidTransition,
     NoLocalTimeType,
 };
-use tz_base::error::timezone::TransitionRuleError::{
+use tz_base::error::TransitionRuleError::{
     InconsistentRule, InvalidDstStartEndTime, InvalidDstUtcOffset, InvalidRuleDayJulianDay,
     InvalidRuleDayMonth, InvalidRuleDayWeek, InvalidRuleDayWeekDay, InvalidStdUtcOffset,
 };
-use tz_base::error::timezone::{LocalTimeTypeError, TimeZoneError, TransitionRuleError};
-use tz_base::error::{Error, ReadFault, TzError};
+use tz_base::error::TzFileError::{
+    InvalidDstIndicator, InvalidFooter, InvalidHeader, InvalidMagicNumber, InvalidStdWallUtLocal,
+    InvalidTimeZoneDesignationCharIndex, RemainingDataV1, UnsupportedTzFileVersion,
+};
+use tz_base::error::TzStringError::{
+    Empty, InvalidDayTimeHour, InvalidDayTimeMinute, InvalidDayTimeSecond, InvalidOffsetHour,
+    InvalidOffsetMinute, InvalidOffsetSecond, MissingDstStartEndRules, RemainingData,
+};
+use tz_base::error::{
+    DateTimeError, Error, LocalTimeTypeError, ParseDataError, ReadFault, TimeZoneError,
+    TransitionRuleError, TzError, TzFileError, TzStringError,
+};
 
 /// The error prints as the text.
 fn expect_text(

@@ -3,8 +3,7 @@
 use crate::expect::expect_eq;
 use std::alloc::{AllocError, Allocator};
 use std::test::Fail;
-use tz_base::error::TzError;
-use tz_base::error::timezone::{LocalTimeTypeError, TimeZoneError};
+use tz_base::error::{LocalTimeTypeError, TimeZoneError, TzError};
 use tz_samples::refusing::Refusing;
 use tz_zone::timezone::{LeapSecond, LocalTimeType, TimeZone, Transition, TransitionRule};
 

@@ -4,13 +4,13 @@ use crate::expect::{expect_eq, expect_eq_at};
 use std::alloc::{AllocError, Global};
 use std::process::Abort;
 use std::test::Fail;
-use tz_base::error::TzError;
-use tz_base::error::parse::ParseDataError::{InvalidData, UnexpectedEof};
-use tz_base::error::parse::TzFileError::{InvalidFooter, Utf8};
-use tz_base::error::parse::TzStringError::InvalidDayTimeHour;
-use tz_base::error::parse::{ParseDataError, TzFileError, TzStringError};
-use tz_base::error::timezone::TimeZoneError::InconsistentExtraRule;
-use tz_base::error::timezone::{LocalTimeTypeError, TimeZoneError};
+use tz_base::error::ParseDataError::{InvalidData, UnexpectedEof};
+use tz_base::error::TimeZoneError::InconsistentExtraRule;
+use tz_base::error::TzFileError::{InvalidFooter, Utf8};
+use tz_base::error::TzStringError::InvalidDayTimeHour;
+use tz_base::error::{
+    LocalTimeTypeError, ParseDataError, TimeZoneError, TzError, TzFileError, TzStringError,
+};
 use tz_samples::faults::{Fault, named};
 use tz_samples::files::{JERUSALEM_V3, UTC_V1, push_header, without_transitions};
 use tz_samples::instants::LEAP_TIMES;

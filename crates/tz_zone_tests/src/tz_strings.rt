@@ -8,16 +8,16 @@ use std::alloc::{AllocError, Global};
 use std::process::Abort;
 use std::test::Fail;
 use tz_base::error::Error;
-use tz_base::error::parse::ParseDataError::{InvalidData, UnexpectedEof};
-use tz_base::error::parse::TzStringError::{
-    InvalidDayTimeHour, InvalidDayTimeMinute, InvalidDayTimeSecond, InvalidOffsetHour,
-    InvalidOffsetMinute, InvalidOffsetSecond, MissingDstStartEndRules, ParseData, RemainingData,
-};
-use tz_base::error::timezone::LocalTimeTypeError::{
+use tz_base::error::LocalTimeTypeError::{
     InvalidTimeZoneDesignationChar, InvalidTimeZoneDesignationLength,
 };
-use tz_base::error::timezone::TransitionRuleError::{
+use tz_base::error::ParseDataError::{InvalidData, UnexpectedEof};
+use tz_base::error::TransitionRuleError::{
     InvalidRuleDayJulianDay, InvalidRuleDayMonth, InvalidRuleDayWeek, InvalidRuleDayWeekDay,
+};
+use tz_base::error::TzStringError::{
+    InvalidDayTimeHour, InvalidDayTimeMinute, InvalidDayTimeSecond, InvalidOffsetHour,
+    InvalidOffsetMinute, InvalidOffsetSecond, MissingDstStartEndRules, ParseData, RemainingData,
 };
 use tz_samples::faults::{Fault, named_by_settings};
 use tz_samples::tz_strings::{extended_rule, ordinary_rule};

@@ -3,8 +3,8 @@
 
 use crate::expect::{expect_eq, expect_eq_at};
 use std::test::Fail;
+use tz_base::error::TimeZoneError::InconsistentExtraRule;
 use tz_base::error::TzError;
-use tz_base::error::timezone::TimeZoneError::InconsistentExtraRule;
 use tz_samples::faults::{Fault, named};
 use tz_samples::tz_strings::extended_rule;
 use tz_samples::utc;

@@ -11,7 +11,7 @@ ghost use Rattle.tz.specs.Windows.{IsSearchable, IsSmall};
 
 use super::Disambiguation;
 use super::entry_takers::EntryTaker;
-use super::search::{give_in_window, passes_over, shown_at, types_of_window, window_of};
+use super::gaps_and_folds::{give_in_window, passes_over, shown_at, types_of_window, window_of};
 use tz_base::error::TzError;
 use tz_base::fields::local_reading;
 use tz_zone::inner::{Uncounted, WindowTypes, ZoneData};

@@ -9,9 +9,8 @@ ghost use Rattle.tz.specs.Lists.{found_of};
 ghost use Rattle.tz.specs.Outcomes.{AreLooksOf, IsOutcome};
 ghost use Rattle.tz.specs.declared.datetime.found.FoundDateTimeKind.{FoundDateTimeKind};
 
-use super::entry_takers::DateTimeList;
-use super::search::search;
-use super::slot_writer::SlotWriter;
+use super::entry_takers::{DateTimeList, SlotWriter};
+use super::gaps_and_folds::search;
 use super::{DateTime, FoundDateTimeKind, FoundDateTimeList, FoundDateTimeListRefMut, UtcDateTime};
 use std::alloc::Allocator;
 use tz_base::error::TzError;

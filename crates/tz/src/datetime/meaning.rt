@@ -1,17 +1,25 @@
-//! What a local time means in a zone, without a list.
+//! What a local time means in a zone, without a list; and which date time it means, by a choice for
+//! gaps and folds.
 
-ghost use Rattle.std.specs.Prelude.{IfOk};
+ghost use Rattle.std.specs.Prelude.{IfOk, ◌≡◌, IfErr, OnOk};
+ghost use Rattle.tz_base.specs.Fields.{IsValid, reading};
+ghost use Rattle.tz_zone.specs.Clock.{IsClock};
 ghost use Rattle.tz_zone.specs.ZoneOfData.{zone_of_data};
-ghost use Rattle.tz.specs.Outcomes.{IsOutcome};
+ghost use Rattle.tz.specs.DateTimes.{ShowsByClock, IsClockFault};
+ghost use Rattle.tz.specs.Ends.{instant_between};
+ghost use Rattle.tz.specs.Found.{EachCanBeMade};
 ghost use Rattle.tz.specs.LocalMeanings.{HasMeaning};
+ghost use Rattle.tz.specs.Meanings.{IsMeaning, IsMeaningFault};
+ghost use Rattle.tz.specs.Outcomes.{IsOutcome};
 
-use super::ends::{FewEntries, ends_by_types};
-use super::search::{types_of_window, window_of};
+use super::ends::{Entry, FewEntries, ends_by_types, meant_in};
+use super::gaps_and_folds::{types_of_window, window_of};
+use super::zone_data_searches::from_timespec;
 use super::{DateTime, UtcDateTime};
 use tz_base::error::TzError;
 use tz_base::fields::Fields;
 use tz_zone::inner::{ZoneData, plain};
-use tz_zone::timezone::TimeZoneRef;
+use tz_zone::timezone::{LocalTimeType, TimeZoneRef};
 
 /// What a local time means in a zone: the instants at which clocks show it, and the jumps over it.
 #[derive(Clone, Copy, Debug, PartialEq)]
@@ -124,5 +132,193 @@ impl DateTime {
         ensures outcome { IsOutcome (λ e. e) ⊥ (zone_of time_zone_ref.entry) local result }
     {
         meaning_in(local.fields(), &plain(&time_zone_ref))
+    }
+}
+
+/// Which date time a local time means if clocks are set forward over it or show it more than once.
+///
+/// | choice | in a fold, where they show it twice | in a gap, where they skip it |
+/// |---|---|---|
+/// | `Compatible` | the first instant | as much later as clocks are set forward: 2:30 becomes 3:30 |
+/// | `Earlier` | the first instant | as much earlier: 2:30 becomes 1:30 |
+/// | `Later` | the last instant | as much later: 2:30 becomes 3:30 |
+/// | `Reject` | none | none |
+///
+/// If clocks show a local time exactly once and are not set forward over it, all choices mean that.
+/// If they do both, as when they are set back soon after, `Compatible` means the first instant at
+/// which they show it, `Earlier` and `Later` the first and the last entry of
+/// [`DateTime::find`](super::DateTime::find), and `Reject` none.
+#[derive(Clone, Copy, Debug, PartialEq, Eq)]
+pub enum Disambiguation {
+    /// The first instant at which clocks show it, or, in a gap, as much later as clocks are set
+    /// forward: what calendars do. (RFC 5545, 3.3.5)
+    Compatible,
+    /// The first entry: an instant at which clocks show it, or, in a gap, as much earlier as clocks
+    /// are set forward.
+    Earlier,
+    /// The last entry: an instant at which clocks show it, or, in a gap, as much later as clocks
+    /// are set forward.
+    Later,
+    /// The only instant at which clocks show it, or none if there are several or if clocks are also
+    /// set forward over it.
+    Reject,
+}
+
+/// The instant at which the clock is looked up for a jump over the fields.
+#[inline(always)]
+fn lookup_instant(
+    fields: &Fields,
+    disambiguation: Disambiguation,
+    before: &LocalTimeType,
+    after: &LocalTimeType,
+) -> i64
+    requires { IsValid fields.now }
+    ensures { result ≡ instant_between disambiguation (reading fields.now) before.now after.now }
+{
+    let local_time_type = match disambiguation {
+        Disambiguation::Earlier => after,
+        _ => before,
+    };
+    fields.reading() - i64::from(local_time_type.ut_offset())
+}
+
+/// What the zone's clock shows at a Unix time. It is not inlined, so that the search, which seldom
+/// needs it, is.
+#[cold]
+#[inline(never)]
+fn shown_apart(unix_time: i64, nanoseconds: u32, zone: &ZoneData<'_>) -> Result<DateTime, TzError>
+    ensures ok { IfOk result (ShowsByClock (zone_of_data zone.now) unix_time nanoseconds) }
+    ensures err { IfErr result (IsClockFault (zone_of_data zone.now) unix_time nanoseconds) }
+{
+    from_timespec(unix_time, nanoseconds, zone)
+}
+
+/// The one date time that fields mean, as [`DateTime::find_one`] answers it.
+#[inline(always)]
+pub fn find_one(
+    fields: &Fields,
+    disambiguation: Disambiguation,
+    zone: &ZoneData<'_>,
+) -> Result<Option<DateTime>, TzError>
+    ensures ok { IfOk result (IsMeaning (zone_of_data zone.now) disambiguation fields.now) }
+    ensures valid { OnOk result (IsValid fields.now) }
+    ensures made { OnOk result (EachCanBeMade (IsClock (zone_of_data zone.now)) fields.now) }
+    ensures err { IfErr result (IsMeaningFault (zone_of_data zone.now) disambiguation fields.now) }
+{
+    fields.check()?;
+    match meant_in(fields.reading(), disambiguation, zone)? {
+        None => Ok(None),
+        Some(Entry::Shown(unix_time, local_time_type)) => {
+            let date_time = DateTime::of_fields(fields, *local_time_type, unix_time);
+            Ok(Some(date_time))
+        }
+        Some(Entry::Jump(_, before, after)) => {
+            let unix_time = lookup_instant(fields, disambiguation, before, after);
+            Ok(Some(shown_apart(unix_time, fields.nanoseconds, zone)?))
+        }
+    }
+}
+
+impl DateTime {
+    ghost use Rattle.std.specs.Prelude.{IfOk, IfErr, OnOk};
+    ghost use Rattle.tz_base.specs.Fields.{IsValid, fields_of};
+    ghost use Rattle.tz_zone.specs.Clock.{IsClock};
+    ghost use Rattle.tz_zone.specs.ZoneRef.{zone_of};
+    ghost use Rattle.tz.specs.Found.{EachCanBeMade};
+    ghost use Rattle.tz.specs.Meanings.{IsMeaning, IsMeaningFault};
+
+    /// The one date time that a local time means, or `None` if the zone's clock neither shows it
+    /// nor is set forward over it, or if `Reject` rejects it.
+    ///
+    /// The fields are in the ranges of [`DateTime::find`]. If the choice means a jump over the
+    /// local time, the result is what the clock shows at another instant, earlier or later. This
+    /// call does not allocate.
+    ///
+    /// Noon of a date in a zone:
+    ///
+    /// ```rust
+    /// pub fn noon(
+    ///     zone: TimeZoneRef<'_>,
+    ///     year: i32,
+    ///     month: u8,
+    ///     month_day: u8,
+    /// ) -> Result<Option<DateTime>, TzError> {
+    ///     let choice = Disambiguation::Compatible;
+    ///     DateTime::find_one(year, month, month_day, 12, 0, 0, 0, choice, zone)
+    /// }
+    /// ```
+    ///
+    /// # Errors
+    ///
+    /// - those of [`DateTime::find`] but `Memory`;
+    /// - those of [`DateTime::from_timespec`] at that other instant, if the choice means a jump.
+    pub fn find_one(
+        year: i32,
+        month: u8,
+        month_day: u8,
+        hour: u8,
+        minute: u8,
+        second: u8,
+        nanoseconds: u32,
+        disambiguation: Disambiguation,
+        time_zone_ref: TimeZoneRef<'_>,
+    ) -> Result<Option<Self>, TzError>
+        ensures ok { IfOk result (IsMeaning (zone_of time_zone_ref.entry) disambiguation
+            (fields_of year month month_day hour minute second nanoseconds)) }
+        ensures valid { OnOk result
+            (IsValid (fields_of year month month_day hour minute second nanoseconds)) }
+        ensures made { OnOk result (EachCanBeMade (IsClock (zone_of time_zone_ref.entry))
+            (fields_of year month month_day hour minute second nanoseconds)) }
+        ensures err { IfErr result (IsMeaningFault (zone_of time_zone_ref.entry) disambiguation
+            (fields_of year month month_day hour minute second nanoseconds)) }
+    {
+        let fields = Fields::new(year, month, month_day, hour, minute, second, nanoseconds);
+        find_one(&fields, disambiguation, &plain(&time_zone_ref))
+    }
+
+    /// The one date time that a local time means. The local time is passed as a [`UtcDateTime`]
+    /// with its fields, which serves here as a date and a time of day without a zone.
+    ///
+    /// The result is that of [`DateTime::find_one`] for these fields.
+    ///
+    /// When a daily job at a local time runs next after an instant:
+    ///
+    /// ```rust
+    /// pub fn next_daily_run(
+    ///     zone: TimeZoneRef<'_>,
+    ///     hour: u8,
+    ///     minute: u8,
+    ///     now: i64,
+    /// ) -> Result<Option<DateTime>, TzError> {
+    ///     let today = DateTime::from_timespec(now, 0, zone)?;
+    ///     let (year, month, month_day) = (today.year(), today.month(), today.month_day());
+    ///     let local = UtcDateTime::new(year, month, month_day, hour, minute, 0, 0)?;
+    ///     let day = Duration::from_secs(86_400);
+    ///     // Yesterday's run is still to come where clocks have just been set over midnight.
+    ///     for local in [local.checked_sub(day), Some(local), local.checked_add(day)] {
+    ///         let local = local.ok_or(TzError::OutOfRange)?;
+    ///         match DateTime::from_local(local, Disambiguation::Compatible, zone)? {
+    ///             Some(run) if now < run.unix_time() => return Ok(Some(run)),
+    ///             _ => {}
+    ///         }
+    ///     }
+    ///     Ok(None)
+    /// }
+    /// ```
+    ///
+    /// # Errors
+    ///
+    /// Those of [`DateTime::find_one`] for fields that are valid.
+    pub fn from_local(
+        local: UtcDateTime,
+        disambiguation: Disambiguation,
+        time_zone_ref: TimeZoneRef<'_>,
+    ) -> Result<Option<Self>, TzError>
+        ensures ok { IfOk result (IsMeaning (zone_of time_zone_ref.entry) disambiguation local) }
+        ensures made { OnOk result (EachCanBeMade (IsClock (zone_of time_zone_ref.entry)) local) }
+        ensures err { IfErr result
+            (IsMeaningFault (zone_of time_zone_ref.entry) disambiguation local) }
+    {
+        find_one(local.fields(), disambiguation, &plain(&time_zone_ref))
     }
 }

@@ -1,21 +1,16 @@
 //! Date times.
 
 pub(crate) mod date_time;
-mod dated_entries;
-pub(crate) mod disambiguation;
-mod durations;
 pub(crate) mod ends;
 pub(crate) mod entry_takers;
 pub(crate) mod find;
 mod found;
-mod meaning;
-pub(crate) mod search;
-mod slot_writer;
+pub(crate) mod gaps_and_folds;
+pub(crate) mod meaning;
 pub(crate) mod utc_date_time;
 pub(crate) mod zone_data_searches;
 
 pub use date_time::DateTime;
-pub use disambiguation::Disambiguation;
 pub use found::{FoundDateTimeKind, FoundDateTimeList, FoundDateTimeListRefMut};
-pub use meaning::Meaning;
+pub use meaning::{Disambiguation, Meaning};
 pub use utc_date_time::UtcDateTime;

@@ -12,12 +12,11 @@ ghost use Rattle.tz.specs.declared.datetime.found.FoundDateTimeKind.{FoundDateTi
 
 use super::date_time::FoundData;
 use super::ends::meant_in;
-use super::search::search;
-use super::slot_writer::SlotWriter;
+use super::entry_takers::SlotWriter;
+use super::gaps_and_folds::search;
 use super::{DateTime, Disambiguation};
 use tz_base::constants::NANOSECONDS_PER_SECOND;
-use tz_base::error::TzError;
-use tz_base::error::datetime::DateTimeError;
+use tz_base::error::{DateTimeError, TzError};
 use tz_base::fields::Fields;
 use tz_zone::inner::{Uncounted, ZoneData};
 

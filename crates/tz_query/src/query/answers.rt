@@ -1,25 +1,37 @@
-//! Answers to query lines: their forms, the names of errors and of types.
+//! Answers to query lines: their forms, the names of errors and of types; answers of instants, by
+//! the segment that is kept from line to line (the clock has one type throughout it, so an instant
+//! in it need not be looked up), and answers of fields.
 
-ghost use Rattle.std.specs.Prelude.{◌≡◌, ◌≤◌, ℕ, List, length, ◌+◌, ◌<◌, ◌++◌, take, drop, IfOk, IfErr, MatchResult, alloc_error};
-ghost use Rattle.tz_query.specs.Answers.{field_fault_text, IsFaultText, AreAnswers, AreFileAnswers};
-ghost use Rattle.tz.specs.PrintedText.{type_name_text, suffix_text};
+ghost use Rattle.std.specs.Prelude.{◌≡◌, ◌≤◌, ℕ, List, length, ◌+◌, ◌<◌, ◌++◌, take, drop, IfOk};
+ghost use Rattle.std.specs.Prelude.{IfErr, MatchResult, alloc_error, ◌≤ℤ◌, IsTrue, ◌+ℤ◌, IfSome};
+ghost use Rattle.std.specs.Prelude.{IfNone, OnOk, ◌⊎◌, ◌∷◌, [], ℤ};
+ghost use Rattle.std.specs.List.{All};
+ghost use Rattle.tz_base.specs.Fields.{IsCivil, IsReading, IsFirstFault, IsValid, day_of};
 ghost use Rattle.tz_zone.specs.Table.{Zone};
 ghost use Rattle.tz_zone.specs.TzFile.{IsTzFile};
 ghost use Rattle.tz_zone.specs.TzFileFault.{IsReadFault};
 ghost use Rattle.tz_zone.specs.ZoneRef.{zone_of};
+ghost use Rattle.tz.specs.PrintedText.{type_name_text, suffix_text};
+ghost use Rattle.tz.specs.Windows.{IsSmall};
+ghost use Rattle.tz_query.specs.Answers.{field_fault_text, IsFaultText, AreAnswers, AreFileAnswers};
+ghost use Rattle.tz_query.specs.MeetingDates.{IsInYears, IsWeekOf, day_after, midnight};
 
 use super::lines::{
     Nanoseconds, Query, after_line, read_query, read_usual_search_line, read_usual_time_line,
 };
-use super::output::{Output, Page};
-use super::time_answers::KeptSegment;
+use super::output::{Output, Page, Written};
 use std::alloc::{AllocError, Allocator};
+use tz::constants::{NANOSECONDS_PER_SECOND, SECONDS_PER_DAY, SECONDS_PER_WEEK};
+use tz::datetime::{DateTime, FoundDateTimeKind};
 use tz::error::datetime::DateTimeError;
-use tz::inner::TextBuffer;
-use tz::{LocalTimeType, TimeZone, TimeZoneRef, TzError};
+use tz::inner::{
+    self, FewEntries, Fields, TextBuffer, WindowTypes, ends_by_types, fields_of, local_reading,
+    plain, types_of_window, window_of,
+};
+use tz::{LocalTimeType, TimeZone, TimeZoneRef, TzError, UtcDateTime};
 
 /// The name of an error in fields.
-pub(super) fn field_fault_name(fault: &DateTimeError) -> &'static str
+fn field_fault_name(fault: &DateTimeError) -> &'static str
     ensures text { result.now ≡ field_fault_text fault.now }
     ensures len { length result.now ≤ 24 }
 {
@@ -34,7 +46,7 @@ pub(super) fn field_fault_name(fault: &DateTimeError) -> &'static str
 }
 
 /// The name of an error, as in an answer.
-pub(super) fn fault_name(error: &TzError) -> &'static str
+fn fault_name(error: &TzError) -> &'static str
     requires { (text : List ℕ) × IsFaultText error.now text }
     ensures text { IsFaultText error.now result.now }
     ensures len { length result.now ≤ 24 }
@@ -278,4 +290,463 @@ pub fn answer_tzif<A: Allocator + Copy>(
 {
     let zone = TimeZone::from_tz_data(alloc, tz_bytes)?;
     answer(alloc, zone.as_ref(), queries)
+}
+
+/// 30 days in seconds. If two lookups, one after the other, are for instants less than this apart,
+/// lines are taken to be in order, so that another segment is worth keeping.
+const NEAR: u64 = 2_592_000;
+
+/// Instants throughout which a clock has one type.
+#[derive(Drop)]
+pub struct KeptSegment {
+    /// The first instant. The segment is empty if this is after the last.
+    pub from: i64,
+    /// The last instant.
+    pub last: i64,
+    /// The suffix of the type.
+    pub suffix: Suffix,
+}
+
+impl KeptSegment {
+    /// Whether the instants from the first one to the second are in the segment.
+    pub fn has(&self, low: i64, high: i64) -> bool
+        ensures { IsTrue result → (self.now.from ≤ℤ low) × (high ≤ℤ self.now.last) }
+    {
+        self.from <= low && high <= self.last
+    }
+}
+
+impl<'a, A: Allocator + Copy> Answers<'a, A> {
+    ghost use Rattle.tz_query.specs.Outputs.{IsSound, Leaves};
+
+    /// Keeps the segment around an instant, if the clock has a type there.
+    #[inline(never)]
+    pub fn keep_segment(&mut self, unix_time: i64)
+        requires { IsSound self.old }
+        ensures { Leaves self.old self.new }
+    {
+        let segment = self.zone.segment_at(unix_time);
+        if let Some(local_time_type) = segment.local_time_type() {
+            self.segment.from = segment.from();
+            self.segment.last = segment.last();
+            self.segment.suffix = *self.suffixes.of(local_time_type);
+        }
+    }
+
+    /// Keeps the segment around an instant that is looked up, if the lines seem to be in order: if
+    /// the lookup before was for an instant near it. It serves the lines after this one.
+    pub fn follow(&mut self, unix_time: i64)
+        requires { IsSound self.old }
+        ensures { Leaves self.old self.new }
+    {
+        let is_near = unix_time.abs_diff(self.missed) < NEAR;
+        self.missed = unix_time;
+        if is_near {
+            self.keep_segment(unix_time);
+        }
+    }
+}
+
+/// What a clock with this offset from UTC shows at a Unix time, if its year is one of 32 bits. The
+/// nanoseconds are 0: a line shows those of its query.
+pub fn shown_fields(unix_time: i64, ut_offset: i32) -> Option<Fields>
+    ensures some { IfSome result (λ f. IsCivil (unix_time +ℤ ut_offset) 0 f
+        × IsReading (unix_time +ℤ ut_offset)) }
+    ensures none { IfNone result (¬ IsReading (unix_time +ℤ ut_offset)) }
+{
+    let reading = local_reading(unix_time, ut_offset)?;
+    Some(Fields::from_reading(reading, 0))
+}
+
+impl<A: Allocator> Output<A> {
+    ghost use Rattle.std.specs.Prelude.{◌≡◌, ◌++◌, ◌∷◌, [], ℕ, List, IfOk};
+    ghost use Rattle.tz_zone.specs.Clock.{IsClock};
+    ghost use Rattle.tz_zone.specs.Table.{Zone};
+    ghost use Rattle.tz_query.specs.Answers.{IsTimeAnswer};
+    ghost use Rattle.tz_query.specs.Lines.{ended};
+    ghost use Rattle.tz_query.specs.Nanoseconds.{number_of};
+    ghost use Rattle.tz_query.specs.Outputs.{written};
+
+    /// Writes the answer of an instant by the type that the clock has there, whose suffix this is.
+    #[inline(always)]
+    fn push_instant(
+        &mut self,
+        unix_time: i64,
+        nanoseconds: &Nanoseconds,
+        suffix: &Suffix,
+    ) -> Written
+        ensures { (z : Zone) → IsClock z unix_time suffix.now.local_time_type
+            → IfOk result (λ _. (text : List ℕ)
+            × IsTimeAnswer z unix_time (number_of nanoseconds.now) text
+            × (written self.new ≡ written self.old ++ ended (text ∷ []))) }
+    {
+        let Some(fields) = shown_fields(unix_time, suffix.local_time_type.ut_offset()) else {
+            return self.push_error("OutOfRange");
+        };
+        self.push_shown(b"", &fields, suffix, nanoseconds)
+    }
+}
+
+impl<'a, A: Allocator + Copy> Answers<'a, A> {
+    ghost use Rattle.std.specs.Prelude.{IfOk, IfSome};
+    ghost use Rattle.tz_zone.specs.Clock.{IsClock};
+    ghost use Rattle.tz_zone.specs.ZoneRef.{zone_of};
+    ghost use Rattle.tz_query.specs.declared.query.lines.Query.TheVariants.{Time};
+    ghost use Rattle.tz_query.specs.Nanoseconds.{number_of};
+    ghost use Rattle.tz_query.specs.Outputs.{IsAnswered, IsSound, Leaves};
+
+    /// The type of the clock at an instant outside the kept segment, if it has one. It is not
+    /// inlined, since a lookup is too long to stand where lines are answered.
+    #[inline(never)]
+    fn type_at(&mut self, unix_time: i64) -> Option<&'a LocalTimeType>
+        requires { IsSound self.old }
+        ensures clock { IfSome result (λ t. IsClock (zone_of self.old.zone) unix_time t.now) }
+        ensures kept { Leaves self.old self.new }
+    {
+        self.follow(unix_time);
+        self.zone.find_local_time_type(unix_time).ok()
+    }
+
+    /// Answers an instant.
+    #[inline(always)]
+    pub fn answer_time(&mut self, unix_time: i64, nanoseconds: &Nanoseconds) -> Written
+        requires { IsSound self.old }
+        ensures { IfOk result (λ _. IsAnswered (Time unix_time (number_of nanoseconds.now)) self.old
+            self.new) }
+    {
+        if self.segment.has(unix_time, unix_time) {
+            let suffix = &self.segment.suffix;
+            return self.output.push_instant(unix_time, nanoseconds, suffix);
+        }
+        let Some(local_time_type) = self.type_at(unix_time) else {
+            return self.answer_by_lookup(unix_time, *nanoseconds);
+        };
+        let suffix = self.suffixes.of(local_time_type);
+        self.output.push_instant(unix_time, nanoseconds, suffix)
+    }
+
+    /// Looks an instant up once more, for the error, which [`Answers::type_at`] drops. It finds no
+    /// type then: the arm for one is there since `type_at` promises nothing of `None`.
+    #[cold]
+    #[inline(never)]
+    fn answer_by_lookup(&mut self, unix_time: i64, nanoseconds: Nanoseconds) -> Written
+        ensures { IfOk result
+            (λ _. IsAnswered (Time unix_time (number_of nanoseconds)) self.old self.new) }
+    {
+        match self.zone.find_local_time_type(unix_time) {
+            Ok(local_time_type) => {
+                let suffix = self.suffixes.of(local_time_type);
+                self.output.push_instant(unix_time, &nanoseconds, suffix)
+            }
+            Err(error) => self.output.push_error(fault_name(&error)),
+        }
+    }
+
+    /// Answers an instant with any nanoseconds.
+    #[inline(never)]
+    pub fn answer_any_time(&mut self, unix_time: i64, nanoseconds: u32) -> Written
+        requires { IsSound self.old }
+        ensures { IfOk result (λ _. IsAnswered (Time unix_time nanoseconds) self.old self.new) }
+    {
+        if nanoseconds >= NANOSECONDS_PER_SECOND {
+            return self.output.push_error("InvalidNanoseconds");
+        }
+        self.answer_time(unix_time, &Nanoseconds::new(nanoseconds))
+    }
+}
+
+/// The Unix time at which the first day begins in UTC, or the first error in the fields.
+fn first_day_begins(first: &Fields) -> Result<i64, DateTimeError>
+    ensures ok { IfOk result (λ begins. (begins ≡ midnight (day_of first.now)) × IsSmall begins) }
+    ensures valid { OnOk result (IsValid first.now) }
+    ensures err { IfErr result (IsFirstFault first.now) }
+{
+    // Second 60 belongs to the next minute, which may be of the next day, or of no year.
+    let second = if first.second == 60 { 59 } else { first.second };
+    let (year, month, month_day) = (first.year, first.month, first.month_day);
+    let (hour, minute, nanoseconds) = (first.hour, first.minute, first.nanoseconds);
+    match UtcDateTime::new(year, month, month_day, hour, minute, second, nanoseconds) {
+        Ok(date_time) => {
+            let unix_time = date_time.unix_time();
+            Ok(unix_time - unix_time.rem_euclid(SECONDS_PER_DAY))
+        }
+        Err(TzError::DateTime(fault)) => Err(fault),
+        Err(_) => unreachable!(),
+    }
+}
+
+/// The fields a number of weeks later, if their year is one of 32 bits.
+fn week_of(first: &Fields, begins: i64, weeks: u8) -> Option<Fields>
+    requires day { begins ≡ midnight (day_of first.now) }
+    requires small { IsSmall begins }
+    ensures some { IfSome result (IsWeekOf first.now weeks) }
+    ensures inside { IfSome result (λ _. IsInYears (day_after first.now weeks)) }
+    ensures none { IfNone result (¬ IsInYears (day_after first.now weeks)) }
+{
+    let unix_time = begins + SECONDS_PER_WEEK * i64::from(weeks);
+    let day = UtcDateTime::from_timespec(unix_time, 0).ok()?;
+    Some(Fields {
+        year: day.year(),
+        month: day.month(),
+        month_day: day.month_day(),
+        ..*first
+    })
+}
+
+impl<'a, A: Allocator + Copy> Answers<'a, A> {
+    ghost use Rattle.tz_query.specs.Outputs.{IsAnswered, IsSound};
+    ghost use Rattle.tz_query.specs.declared.query.lines.Query.TheVariants.{Meeting};
+
+    /// Answers a weekly meeting, which takes place in `count` weeks, in the first of them at these
+    /// fields: for each week, by a search for its fields, or that its year is out of range.
+    #[inline(never)]
+    pub fn answer_meeting(&mut self, count: u8, first: &Fields) -> Written
+        requires { IsSound self.old }
+        ensures { IfOk result (λ _. IsAnswered (Meeting count first.now) self.old self.new) }
+    {
+        let begins = match first_day_begins(first) {
+            Ok(begins) => begins,
+            Err(fault) => return self.output.push_error(field_fault_name(&fault)),
+        };
+        self.output.push_count(b'W', usize::from(count))?;
+        let nanoseconds = Nanoseconds::new(first.nanoseconds);
+        for weeks in 0..count {
+            match week_of(first, begins, weeks) {
+                Some(fields) => self.answer_search(&fields, &nanoseconds)?,
+                None => self.output.push_error("OutOfRange")?,
+            }
+        }
+        Ok(())
+    }
+}
+
+impl<'a, A: Allocator + Copy> Answers<'a, A> {
+    ghost use Rattle.tz_base.specs.Fields.{IsValid, reading as reading_of};
+    ghost use Rattle.tz_zone.specs.Clock.{IsClock};
+    ghost use Rattle.tz_zone.specs.WindowTypes.{AreTypesIn, IfMore, IsPositionOf};
+    ghost use Rattle.tz_zone.specs.ZoneRef.{zone_of};
+    ghost use Rattle.tz_zone.specs.declared.clock.window_types.WindowTypes.TheVariants.{One};
+    ghost use Rattle.tz.specs.DateTimes.{DateTime, ShowsInstant, moment_of};
+    ghost use Rattle.tz.specs.Found.{CanBeMade};
+    ghost use Rattle.tz.specs.PrintedText.{moment_text};
+    ghost use Rattle.tz.specs.Windows.{IsSearchable};
+    ghost use Rattle.tz.specs.declared.datetime.found.FoundDateTimeKind.TheVariants.{Skipped as SkippedKind};
+    ghost use Rattle.tz_query.specs.Answers.{entry_text, found_lines};
+    ghost use Rattle.tz_query.specs.Lines.{ended, line_feed};
+    ghost use Rattle.tz_query.specs.Nanoseconds.{HasNanoseconds, number_of, with_nanoseconds};
+    ghost use Rattle.tz_query.specs.Outputs.{Adds, IsAnswered, IsSound, Leaves};
+    ghost use Rattle.tz_query.specs.Pages.{EndsLine};
+    ghost use Rattle.tz_query.specs.declared.query.lines.Query.TheVariants.{Search};
+
+    /// Writes `front` and the line of fields that a type shows.
+    #[inline(always)]
+    pub fn push_shown(
+        &mut self,
+        front: &[u8],
+        fields: &Fields,
+        local_time_type: &LocalTimeType,
+        nanoseconds: &Nanoseconds,
+    ) -> Written
+        requires front { length front.now ≤ 6 }
+        requires valid { IsValid fields.now }
+        ensures text { IfOk result (λ _. (u : ℤ) → Adds self.old self.new (front.now
+            ++ (moment_text (moment_of (with_nanoseconds fields.now nanoseconds.now)
+            local_time_type.now u) ++ line_feed ∷ []))) }
+        ensures ended { IfOk result (λ _. EndsLine self.new.output.page) }
+    {
+        let suffix = self.suffixes.of(local_time_type);
+        self.output.push_shown(front, fields, suffix, nanoseconds)
+    }
+
+    /// Writes `front` and the line of a date time of a list.
+    fn push_listed(
+        &mut self,
+        front: &[u8],
+        date_time: &DateTime,
+        nanoseconds: &Nanoseconds,
+    ) -> Written
+        requires front { length front.now ≤ 6 }
+        requires nanoseconds { date_time.now.fields.nanoseconds ≡ number_of nanoseconds.now }
+        ensures text { IfOk result (λ _. Adds self.old self.new
+            (front.now ++ (moment_text date_time.now ++ line_feed ∷ []))) }
+        ensures ended { IfOk result (λ _. EndsLine self.new.output.page) }
+    {
+        let local_time_type = date_time.local_time_type();
+        self.push_shown(front, fields_of(date_time), local_time_type, nanoseconds)
+    }
+
+    /// Writes the line of an entry of a list.
+    fn push_entry(&mut self, entry: &FoundDateTimeKind, nanoseconds: &Nanoseconds) -> Written
+        requires { HasNanoseconds (number_of nanoseconds.now) entry.now }
+        ensures { IfOk result (λ _. Adds self.old self.new (ended (entry_text entry.now ∷ []))) }
+    {
+        match entry {
+            FoundDateTimeKind::Normal(date_time) => self.push_listed(b"N ", date_time, nanoseconds),
+            FoundDateTimeKind::Skipped {
+                before_transition,
+                after_transition,
+            } => {
+                self.push_listed(b"S ", before_transition, nanoseconds)?;
+                self.output.page.pop();
+                self.push_listed(b" ", after_transition, nanoseconds)
+            }
+        }
+    }
+
+    /// Writes the answer lines of a list.
+    pub fn push_found(&mut self, found: &[FoundDateTimeKind], nanoseconds: &Nanoseconds) -> Written
+        requires { All (HasNanoseconds (number_of nanoseconds.now)) found.now }
+        ensures { IfOk result (λ _. Adds self.old self.new (ended (found_lines found.now))) }
+    {
+        self.output.push_count(b'F', found.len())?;
+        for entry in found {
+            self.push_entry(entry, nanoseconds)?;
+        }
+        Ok(())
+    }
+
+    /// Answers fields with these nanoseconds by a search of their own.
+    #[inline(never)]
+    fn answer_by_search(&mut self, fields: Fields, nanoseconds: Nanoseconds) -> Written
+        ensures { IfOk result (λ _. IsAnswered (Search (with_nanoseconds fields nanoseconds))
+            self.old
+            self.new) }
+    {
+        let mut whole = fields;
+        whole.nanoseconds = nanoseconds.number();
+        match inner::find_fields(self.alloc, &whole, &plain(&self.zone)) {
+            Ok(list) => self.push_found(&list.into_inner(), &nanoseconds),
+            Err(TzError::DateTime(fault)) => self.output.push_error(field_fault_name(&fault)),
+            Err(TzError::OutOfRange) => self.output.push_error("OutOfRange"),
+            Err(TzError::Memory(fault)) => Err(fault),
+            Err(_) => unreachable!(),
+        }
+    }
+
+    /// Writes the answer lines of fields over which a clock is set forward, or searches for them if
+    /// a side of the jump is in no year of 32 bits.
+    fn push_jump(
+        &mut self,
+        fields: Fields,
+        nanoseconds: Nanoseconds,
+        unix_time: i64,
+        before: &LocalTimeType,
+        after: &LocalTimeType,
+    ) -> Written
+        ensures { IfOk result (λ _. ((x : DateTime) × (y : DateTime)
+            × ShowsInstant unix_time (number_of nanoseconds) before.now x
+            × ShowsInstant unix_time (number_of nanoseconds) after.now y
+            × CanBeMade (SkippedKind x y)
+            × Adds self.old self.new (ended (found_lines (SkippedKind x y ∷ []))))
+            ⊎ IsAnswered (Search (with_nanoseconds fields nanoseconds)) self.old self.new) }
+    {
+        let Some(first) = shown_fields(unix_time, before.ut_offset()) else {
+            return self.answer_by_search(fields, nanoseconds);
+        };
+        let Some(second) = shown_fields(unix_time, after.ut_offset()) else {
+            return self.answer_by_search(fields, nanoseconds);
+        };
+        self.push_shown(b"F 1\nS ", &first, before, &nanoseconds)?;
+        self.output.page.pop();
+        self.push_shown(b" ", &second, after, &nanoseconds)
+    }
+
+    /// Answers fields by the types that the clock has in their window. Values are passed as copies,
+    /// so that the loop over lines keeps them in registers.
+    #[inline(never)]
+    fn answer_by_types(
+        &mut self,
+        types: &WindowTypes<'a>,
+        fields: Fields,
+        nanoseconds: Nanoseconds,
+        reading: i64,
+        low: i64,
+        high: i64,
+    ) -> Written
+        requires valid { IsValid fields }
+        requires reading { reading ≡ reading_of fields }
+        requires searchable { IsSearchable (zone_of self.old.zone) reading low high }
+        requires types { AreTypesIn (IsClock (zone_of self.old.zone)) low high types.now }
+        requires position { IfMore types.now (IsPositionOf (zone_of self.old.zone) low) }
+        ensures { IfOk result (λ _. IsAnswered (Search (with_nanoseconds fields nanoseconds))
+            self.old self.new) }
+    {
+        let Ok(ends) = ends_by_types(reading, &plain(&self.zone), *types, low, high) else {
+            return self.answer_by_search(fields, nanoseconds);
+        };
+        match ends.few() {
+            FewEntries::Nothing => self.output.push_count(b'F', 0),
+            FewEntries::Once(_, local_time_type) => {
+                self.push_shown(b"F 1\nN ", &fields, local_time_type, &nanoseconds)
+            }
+            FewEntries::Twice(_, first, _, last) => {
+                self.push_shown(b"F 2\nN ", &fields, first, &nanoseconds)?;
+                self.push_shown(b"N ", &fields, last, &nanoseconds)
+            }
+            FewEntries::Skipped(unix_time, before, after) => {
+                self.push_jump(fields, nanoseconds, unix_time, before, after)
+            }
+            FewEntries::More(_) => self.answer_by_search(fields, nanoseconds),
+        }
+    }
+
+    /// Looks up the types that the clock has in a window, and returns the type if there is one. It
+    /// is not inlined, since this is too long to stand where lines are answered.
+    #[inline(never)]
+    fn type_in_window(
+        &mut self,
+        types: &mut WindowTypes<'a>,
+        low: i64,
+        high: i64,
+    ) -> Option<&'a LocalTimeType>
+        requires { IsSound self.old }
+        ensures types { AreTypesIn (IsClock (zone_of self.new.zone)) low high types.new }
+        ensures position { IfMore types.new (IsPositionOf (zone_of self.new.zone) low) }
+        ensures one { IfSome result (λ t. types.new ≡ One t) }
+        ensures kept { Leaves self.old self.new }
+    {
+        self.follow(low);
+        *types = types_of_window(&plain(&self.zone), low, high);
+        match *types {
+            WindowTypes::One(local_time_type) => Some(local_time_type),
+            _ => None,
+        }
+    }
+
+    /// Answers fields with these nanoseconds: by the type that is kept, if the clock has it
+    /// throughout their window, or by a search there.
+    #[inline(always)]
+    pub fn answer_search(&mut self, fields: &Fields, nanoseconds: &Nanoseconds) -> Written
+        requires { IsSound self.old }
+        ensures { IfOk result (λ _. IsAnswered
+            (Search (with_nanoseconds fields.now nanoseconds.now))
+            self.old self.new) }
+    {
+        let Ok(()) = fields.check() else {
+            return self.answer_by_search(*fields, *nanoseconds);
+        };
+        let reading = fields.reading();
+        let (low, high) = window_of(&plain(&self.zone), reading);
+        if self.segment.has(low, high) {
+            let (output, suffix) = (&mut self.output, &self.segment.suffix);
+            return output.push_shown(b"F 1\nN ", fields, suffix, nanoseconds);
+        }
+        let mut types = WindowTypes::More(None);
+        let Some(local_time_type) = self.type_in_window(&mut types, low, high) else {
+            return self.answer_by_types(&types, *fields, *nanoseconds, reading, low, high);
+        };
+        self.push_shown(b"F 1\nN ", fields, local_time_type, nanoseconds)
+    }
+
+    /// Answers any fields.
+    #[inline(never)]
+    pub fn answer_any_search(&mut self, fields: &Fields) -> Written
+        requires { IsSound self.old }
+        ensures { IfOk result (λ _. IsAnswered (Search fields.now) self.old self.new) }
+    {
+        match fields.check() {
+            Ok(()) => self.answer_search(fields, &Nanoseconds::new(fields.nanoseconds)),
+            Err(fault) => self.output.push_error(field_fault_name(&fault)),
+        }
+    }
 }

@@ -4,8 +4,6 @@ mod answers;
 mod lines;
 mod output;
 mod program;
-mod search_answers;
-mod time_answers;
 
 pub use answers::{answer, answer_tzif};
 pub use output::{RunFault, run};

@@ -7,7 +7,7 @@ ghost use Rattle.std.specs.Fn.{FnReturnsAt};
 ghost use Rattle.std.specs.Int.{w32};
 ghost use Rattle.tz_query.specs.Numbers.{IsNumber};
 ghost use Rattle.tz_query.specs.Program.{texts_of, NamesZone, NamesRefusedZone, AnswersInput, BeginsAnswers};
-ghost use Rattle.tz_base.specs.declared.error.tz_error.TzError.{TzError};
+ghost use Rattle.tz_base.specs.declared.error.TzError.{TzError};
 ghost use Rattle.tz_zone.specs.Table.{Zone};
 ghost use Rattle.tz_zone.specs.ZoneRef.{own_zone_of};
 
@@ -33,7 +33,7 @@ enum Fault {
 
 impl From<TzError> for Fault {
     ghost use Rattle.std.specs.Prelude.{◌≡◌, ◌≢◌, ◌⊎◌, alloc_error};
-    ghost use Rattle.tz_base.specs.declared.error.tz_error.TzError.TheVariants as refusals;
+    ghost use Rattle.tz_base.specs.declared.error.TzError.TheVariants as refusals;
     ghost use Rattle.tz_query.specs.declared.query.program.Fault.TheVariants as faults;
 
     ghost from_gives = { λ error fault.

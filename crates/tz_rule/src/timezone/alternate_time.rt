@@ -14,7 +14,7 @@ use super::year_table::YearTable;
 use super::{LocalTimeType, RuleDay};
 use std::fmt;
 use std::marker::Model;
-use tz_base::error::timezone::TransitionRuleError;
+use tz_base::error::TransitionRuleError;
 
 /// Whether the offset is above -25 and below 26 hours.
 const fn is_rule_offset(offset: i32) -> bool

@@ -5,7 +5,7 @@ ghost use Rattle.tz_rule.specs.LocalTimeType.{IsFirstTypeFault, IsLocalTimeType,
 
 use std::marker::Model;
 use std::{fmt, str};
-use tz_base::error::timezone::LocalTimeTypeError;
+use tz_base::error::LocalTimeTypeError;
 
 /// A name of one to seven ASCII bytes, or none, of length 0. The bytes after the name are zero.
 #[repr(C)]
@@ -90,7 +90,7 @@ const fn is_designation_byte(byte: u8) -> bool
 impl Designation {
     ghost use Rattle.tz_rule.specs.Designation.{IsKept, name_of, kept, word_of};
     ghost use Rattle.tz_rule.specs.LocalTimeType.{IsDesignation, IsDesignationLength};
-    ghost use Rattle.tz_base.specs.declared.error.timezone.LocalTimeTypeError.TheVariants as faults;
+    ghost use Rattle.tz_base.specs.declared.error.LocalTimeTypeError.TheVariants as faults;
     ghost use Rattle.std.specs.Prelude.{All, IfOk, IfErr, OnOk, ◌⊎◌, ◌≡◌};
 
     /// No name.
@@ -155,7 +155,7 @@ impl LocalTimeType {
     ghost use Rattle.tz_rule.specs.Same.{same_type};
     ghost use Rattle.std.specs.Option.{option_copied};
     ghost use Rattle.std.specs.Prelude.{pos, IfSome};
-    ghost use Rattle.tz_base.specs.declared.error.timezone.LocalTimeTypeError.TheVariants as faults;
+    ghost use Rattle.tz_base.specs.declared.error.LocalTimeTypeError.TheVariants as faults;
 
     /// The type with this offset in seconds, this daylight flag and this name of 1 to 7 bytes of
     /// `0-9A-Za-z+-`. (RFC 8536, section 3.2)

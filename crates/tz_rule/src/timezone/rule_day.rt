@@ -1,6 +1,6 @@
 //! The days of a year that a rule can name.
 
-ghost use Rattle.tz_base.specs.declared.error.timezone.TransitionRuleError.TheVariants as faults;
+ghost use Rattle.tz_base.specs.declared.error.TransitionRuleError.TheVariants as faults;
 ghost use Rattle.std.specs.Prelude.{◌≡◌, ℕ, ◌+◌, ◌-◌, ◌*◌, ◌<◌, ◌≤◌, min, get_or, IfOk, IfErr, OnOk};
 ghost use Rattle.tz_rule.specs.JulianDay.{IsJulianDay, IsZeroBasedDay};
 ghost use Rattle.tz_rule.specs.MonthWeek.{MonthWeek, IsMonthWeek, IsFirstMonthWeekFault, IsRuleWeek, month_week};
@@ -9,7 +9,7 @@ ghost use Rattle.tz_rule.specs.ZeroRule.{zero_day};
 
 use std::marker::Model;
 use tz_base::calendar;
-use tz_base::error::timezone::TransitionRuleError;
+use tz_base::error::TransitionRuleError;
 
 /// The day of a month of this length, counted from 0, on which a week day falls for the w-th time,
 /// or for week 5 for the last time, if it first falls on day `first`.

@@ -7,7 +7,7 @@ ghost use Rattle.tz_zone.specs.TableChanges.{IsChangeByRule};
 ghost use Rattle.tz_zone.specs.ZoneOfData.{zone_of_data};
 ghost use Rattle.tz_zone.specs.ClockSegments.{IsBefore, IsReachedAt};
 
-use super::position::position_at;
+use super::binary_search::position_at;
 use super::segment::Segment;
 use crate::table::{Transition, Transitions, Uncounted};
 use crate::timezone::zone_data::ZoneData;

@@ -11,8 +11,8 @@ ghost use Rattle.tz_zone.specs.TableChanges.{IsChangeByRule, IsTableStart, IsFar
 ghost use Rattle.tz_zone.specs.ValidZone.{AreLeapSeconds};
 ghost use Rattle.tz_zone.specs.ZoneOfData.{zone_of_data};
 
+use super::binary_search::position_at;
 use super::lookup::{after_table, before, type_of};
-use super::position::position_at;
 use crate::leap::LeapSecond;
 use crate::leap::leap_time::{
     effect_of_reached, first_begun, has_begun, last_before, last_instant, last_instant_up_to,

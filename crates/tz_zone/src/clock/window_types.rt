@@ -7,8 +7,8 @@ ghost use Rattle.tz_zone.specs.WindowTypes.{IsPositionOf, AreTypesIn, IfMore};
 ghost use Rattle.tz_zone.specs.ZoneOfData.{zone_of_data};
 ghost use Rattle.tz_zone.specs.LeapTime.{IsLeapTime};
 
+use super::binary_search::{position_at, position_of};
 use super::lookup::{after_table, type_before, type_of};
-use super::position::{position_at, position_of};
 use crate::leap::leap_time::{effect_of_reached, first_begun, last_before, leap_time, stay_before};
 use crate::table::Transitions;
 use crate::timezone::zone_data::ZoneData;

@@ -3,7 +3,7 @@
 
 ghost use Rattle.std.specs.Prelude.{◌≡◌, ℕ, ◌+◌, ◌<◌, ◌≤◌, length, slice_get, Some, IsFalse, refl};
 
-use super::transition::Transition;
+use super::Transition;
 
 /// A view of transitions.
 ///

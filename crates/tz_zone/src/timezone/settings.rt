@@ -1,73 +1,24 @@
-//! Names of time zones.
+//! Settings: the files that a name means in directories, and the zone of a name, of the environment
+//! variable TZ's text or of the machine.
 
-ghost use Rattle.std.specs.Prelude.{◌↔◌, IsTrue, All, codes, ◌≡◌, ◌⊎◌, ◌∷◌, map, Ok, Err, MatchOption, MatchResult, alloc_error};
-ghost use Rattle.tz_zone.specs.ZoneNames.{IsZoneNameByte, IsZoneNamePart, IsZoneName, SaysOfName};
-ghost use Rattle.tz_base.specs.declared.error.tz_error.Error.TheVariants.{Tz};
-ghost use Rattle.tz_base.specs.declared.error.tz_error.TzError.TheVariants.{Memory as NoMemory};
-ghost use Rattle.tz_zone.specs.Bytes.{colon};
-ghost use Rattle.tz_zone.specs.Settings.{IsFileAnswer, Opens, local_time};
+ghost use Rattle.std.specs.Prelude.{◌↔◌, IsTrue, ◌≡◌, ◌⊎◌, ◌∷◌, map, Ok, Err, MatchOption};
+ghost use Rattle.std.specs.Prelude.{MatchResult, alloc_error, IfOk, IfSome};
+ghost use Rattle.std.specs.String.{string_bytes};
+ghost use Rattle.tz_base.specs.declared.error.Error.TheVariants.{Tz};
+ghost use Rattle.tz_base.specs.declared.error.ReadFault.TheVariants.{Memory};
+ghost use Rattle.tz_base.specs.declared.error.TzError.TheVariants.{Memory as NoMemory};
+ghost use Rattle.tz_zone.specs.Bytes.{colon, slash};
+ghost use Rattle.tz_zone.specs.Settings.{IsFileAnswer, Opens, local_time, path_in};
 ghost use Rattle.tz_zone.specs.TzText.{Begins};
 ghost use Rattle.tz_zone.specs.ZoneRef.{own_zone_of};
 
 use super::TimeZone;
-use super::zone_of_bytes::zone_of_tz_string;
+use super::zone_names::{is_zone_name, no_such_zone, not_a_name};
+use crate::parse::tz_string::zone_of_tz_string;
 use anyhow::anyhow;
-use std::alloc::{Allocator, Global};
-use tz_base::error::parse::TzStringError;
-use tz_base::error::{Error, ReadFault, TzError};
-
-/// Whether a name may have the byte.
-fn is_name_byte(byte: u8) -> bool
-    ensures { IsTrue result ↔ IsZoneNameByte byte }
-{
-    matches!(byte, b'0'..=b'9' | b'A'..=b'Z' | b'a'..=b'z' | b'.' | b'_' | b'+' | b'-')
-}
-
-/// Whether all of the bytes may stand in a name.
-fn are_name_bytes(part: &[u8]) -> bool
-    ensures { IsTrue result ↔ All IsZoneNameByte part.now }
-{
-    for byte in part {
-        if !is_name_byte(*byte) {
-            return false;
-        }
-    }
-    true
-}
-
-/// Whether a name may have the part.
-fn is_name_part(part: &[u8]) -> bool
-    ensures { IsTrue result ↔ IsZoneNamePart part.now }
-{
-    !matches!(part, [] | [b'.'] | [b'.', b'.']) && are_name_bytes(part)
-}
-
-/// Whether the text is a name of the form that [`TimeZone::named`](super::TimeZone::named) looks
-/// for. (tz database, Timezone identifiers)
-///
-/// A name has one part or several, with `/` between them. A part is one or more ASCII letters,
-/// digits, `.`, `_`, `+` and `-`, and neither `.` nor `..`.
-pub fn is_zone_name(name: &str) -> bool
-    ensures { IsTrue result ↔ IsZoneName name.now }
-{
-    name.as_bytes()
-        .split(|byte| *byte == b'/')
-        .all(is_name_part)
-}
-
-/// The error of a text that is no name.
-pub(super) fn not_a_name(text: &str) -> anyhow::Error
-    ensures { SaysOfName (codes "not a time zone name: ") text.now result }
-{
-    anyhow!("not a time zone name: {text}")
-}
-
-/// The error of a name that no zone has.
-pub(super) fn no_such_zone(name: &str) -> anyhow::Error
-    ensures { SaysOfName (codes "no time zone has the name ") name.now result }
-{
-    anyhow!("no time zone has the name {name}")
-}
+use arrayvec::ArrayString;
+use std::alloc::{AllocError, Allocator};
+use tz_base::error::{Error, ReadFault, TzError, TzStringError};
 
 /// The directories in which systems keep their time zone files.
 pub const DEFAULT_DIRECTORIES: &[&str] = &[
@@ -125,13 +76,13 @@ fn zone_of_found<A: Allocator + Copy>(
 /// it returns bytes or `ReadFault::Memory`.
 #[derive(Drop)]
 pub struct TimeZoneSettings<'a, F> {
-    pub(super) directories: &'a [&'a str],
-    pub(super) reader: F,
+    directories: &'a [&'a str],
+    reader: F,
 }
 
 impl<'a, F: Fn(&str) -> Result<Vec<u8>, ReadFault>> TimeZoneSettings<'a, F> {
     ghost use Rattle.std.specs.Fn.{FnReturnsAt};
-    ghost use Rattle.tz_base.specs.declared.error.tz_error.ReadFault.TheVariants.{Failed};
+    ghost use Rattle.tz_base.specs.declared.error.ReadFault.TheVariants.{Failed};
     ghost use Rattle.tz_zone.specs.Settings.{IsLocalAnswer, IsNamedAnswer, IsNamedOrTextAnswer, IsSettingsAnswer, texts_of};
     ghost use Rattle.tz_zone.specs.SettingsParts.{directories_of, reader_of};
     ghost use Rattle.tz_zone.specs.ZoneNames.{IsCallableAt, IsPathOfName, IsZoneNameAnswer};
@@ -375,5 +326,169 @@ impl<A: Allocator + Copy> TimeZone<A> {
     {
         let settings = TimeZoneSettings::new(DEFAULT_DIRECTORIES, reader);
         settings.zone_of_name(alloc, name)
+    }
+}
+
+/// How long a path may be that needs no memory: those of the names of the time zone database are
+/// shorter.
+const USUAL_LEN: usize = 96;
+
+/// Whether the name is a path of its own.
+fn is_absolute(name: &str) -> bool
+    ensures { IsTrue result ↔ Begins slash name.now }
+{
+    matches!(name.as_bytes(), [b'/', ..])
+}
+
+/// Writes the path of a name in a directory into the room of usual paths, and returns it, or `None`
+/// where the room is too short.
+#[inline(always)]
+fn usual_path<'p>(
+    room: &'p mut ArrayString<USUAL_LEN>,
+    directory: &str,
+    name: &str,
+) -> Option<&'p str>
+    ensures { IfSome result (λ path. path.now ≡ path_in directory.now name.now) }
+{
+    room.clear();
+    if room.try_push_str(directory).is_err()
+        || room.try_push_str("/").is_err()
+        || room.try_push_str(name).is_err()
+    {
+        return None;
+    }
+    Some(room.as_str())
+}
+
+/// The path of a name in a directory, in memory.
+fn long_path<A: Allocator + Copy>(
+    alloc: A,
+    directory: &str,
+    name: &str,
+) -> Result<String<A>, AllocError>
+    ensures { IfOk result (λ path. string_bytes path ≡ path_in directory.now name.now) }
+{
+    let mut path = String::with_capacity(alloc, directory.len() + 1 + name.len())?;
+    path.push_str(directory)?;
+    path.push_str("/")?;
+    path.push_str(name)?;
+    Ok(path)
+}
+
+impl<F: Fn(&str) -> Result<Vec<u8>, ReadFault>> TimeZoneSettings<'_, F> {
+    ghost use Rattle.anyhow.specs.declared.error.Error.{Error as Fault};
+    ghost use Rattle.std.specs.Fn.{FnReturnsAt};
+    ghost use Rattle.tz_base.specs.declared.error.ReadFault.TheVariants.{Failed};
+    ghost use Rattle.tz_zone.specs.Settings.{FindsIn, Finds};
+    ghost use Rattle.tz_zone.specs.SettingsParts.{directories_of, reader_of};
+    ghost use Rattle.tz_zone.specs.ZoneNames.{IsCallableAt, IsPathIn};
+
+    /// What the reader returns for the path.
+    fn read(&self, path: &str) -> Result<Vec<u8>, ReadFault>
+        requires { IsCallableAt F.Fn (reader_of self.now) (λ asked. asked ≡ path.now) }
+        ensures { FnReturnsAt F.Fn (reader_of self.now) path.now result }
+    {
+        (self.reader)(path)
+    }
+
+    /// The file at the path, or `None` if it cannot be read. The reader's fault is dropped at once.
+    #[inline(always)]
+    fn read_if_there(&self, path: &str) -> Result<Option<Vec<u8>>, AllocError>
+        requires { IsCallableAt F.Fn (reader_of self.now) (λ asked. asked ≡ path.now) }
+        ensures { IfOk result (λ found. MatchOption found
+            ((fault : Fault) × FnReturnsAt F.Fn (reader_of self.now) path.now (Err (Failed fault)))
+            (λ bytes. FnReturnsAt F.Fn (reader_of self.now) path.now (Ok bytes))) }
+    {
+        match self.read(path) {
+            Ok(bytes) => Ok(Some(bytes)),
+            Err(ReadFault::Memory(error)) => Err(error),
+            Err(ReadFault::Failed(_)) => Ok(None),
+        }
+    }
+
+    /// The file with the name in the directory, or `None` if it cannot be read.
+    #[inline(always)]
+    fn find_in_directory<A: Allocator + Copy>(
+        &self,
+        alloc: A,
+        room: &mut ArrayString<USUAL_LEN>,
+        directory: &str,
+        name: &str,
+    ) -> Result<Option<Vec<u8>>, AllocError>
+        requires { IsCallableAt F.Fn (reader_of self.now)
+            (λ asked. asked ≡ path_in directory.now name.now) }
+        ensures { IfOk result (λ found. MatchOption found
+            ((fault : Fault) × FnReturnsAt F.Fn (reader_of self.now)
+            (path_in directory.now name.now) (Err (Failed fault)))
+            (λ bytes. FnReturnsAt F.Fn (reader_of self.now) (path_in directory.now name.now)
+            (Ok bytes))) }
+    {
+        if let Some(path) = usual_path(room, directory, name) {
+            return self.read_if_there(path);
+        }
+        let path = long_path(alloc, directory, name)?;
+        self.read_if_there(path.as_str())
+    }
+
+    /// The file with the name in the first of the directories that has it, or `None` where none has
+    /// it.
+    fn find_in_directories<A: Allocator + Copy>(
+        &self,
+        alloc: A,
+        name: &str,
+    ) -> Result<Option<Vec<u8>>, AllocError>
+        requires { IsCallableAt F.Fn (reader_of self.now)
+            (IsPathIn (directories_of self.now) name.now) }
+        ensures { IfOk result (λ found. MatchOption found
+            ((fault : Fault) → FindsIn (FnReturnsAt F.Fn (reader_of self.now))
+            (directories_of self.now) name.now (Err (Failed fault)))
+            (λ bytes. FindsIn (FnReturnsAt F.Fn (reader_of self.now)) (directories_of self.now)
+            name.now (Ok bytes))) }
+    {
+        let mut room = ArrayString::new();
+        for directory in self.directories {
+            let found = self.find_in_directory(alloc, &mut room, directory, name)?;
+            if let Some(bytes) = found {
+                return Ok(Some(bytes));
+            }
+        }
+        Ok(None)
+    }
+
+    /// The file with the name.
+    fn find<A: Allocator + Copy>(&self, alloc: A, name: &str) -> Result<Vec<u8>, ReadFault>
+        requires { F.IsAlwaysCallable (reader_of self.now) }
+        ensures { (result ≡ Err (Memory alloc_error))
+            ⊎ Finds (FnReturnsAt F.Fn (reader_of self.now)) (directories_of self.now) name.now
+            result }
+    {
+        if is_absolute(name) {
+            return self.read(name);
+        }
+        let found = self.find_in_directories(alloc, name)?;
+        match found {
+            Some(bytes) => Ok(bytes),
+            None => Err(ReadFault::Failed(anyhow!("file was not found"))),
+        }
+    }
+
+    /// The file with the name, or `None` if it cannot be read. No text is made for an error that
+    /// nobody sees.
+    fn find_readable<A: Allocator + Copy>(
+        &self,
+        alloc: A,
+        name: &str,
+    ) -> Result<Option<Vec<u8>>, AllocError>
+        requires { F.IsAlwaysCallable (reader_of self.now) }
+        ensures { IfOk result (λ found. MatchOption found
+            ((fault : Fault) × Finds (FnReturnsAt F.Fn (reader_of self.now))
+            (directories_of self.now) name.now (Err (Failed fault)))
+            (λ bytes. Finds (FnReturnsAt F.Fn (reader_of self.now)) (directories_of self.now)
+            name.now (Ok bytes))) }
+    {
+        if !is_absolute(name) {
+            return self.find_in_directories(alloc, name);
+        }
+        self.read_if_there(name)
     }
 }

@@ -12,8 +12,7 @@ ghost use Rattle.tz_zone.specs.Offsets.{IsOffsetOfTypes, IsOffsetOfRule, IsLeast
 use super::{LeapSecond, LocalTimeType, Transition};
 use crate::leap::leap_time::effect;
 use crate::leap::table::{are_leap_seconds, has_begun_at};
-use tz_base::error::TzError;
-use tz_base::error::timezone::TimeZoneError;
+use tz_base::error::{TimeZoneError, TzError};
 use tz_rule::inner::RuleRef;
 
 /// Whether the type index of the transition at an index is below `types`, the number of types.

@@ -17,7 +17,7 @@ use tz_base::error::TzError;
 /// does.
 #[derive(Clone, Copy)]
 pub struct TimeZoneRef<'a> {
-    pub(super) plain: ZoneData<'a>,
+    pub(crate) plain: ZoneData<'a>,
     // The rule that `plain` keeps, as `extra_rule` returns it.
     extra_rule: &'a Option<TransitionRule>,
     ghost same: { rule_of_source plain.rule ≡ extra_rule.now },

@@ -3,10 +3,10 @@
 
 use crate::expect::expect_eq_at;
 use std::process::Abort;
-use tz_base::error::timezone::TransitionRuleError;
+use tz_base::error::TransitionRuleError;
 use tz_rule::timezone::{AlternateTime, LocalTimeType};
-use tz_samples::rules::Day::{self, Julian0 as Z, Julian1 as J, Month as M};
-use tz_samples::rules::day_of;
+use tz_samples::rules::Day::{Julian0 as Z, Julian1 as J, Month as M};
+use tz_samples::rules::{Day, day_of};
 
 /// A rule day and a day time in whole days.
 type At = (Day, i8);

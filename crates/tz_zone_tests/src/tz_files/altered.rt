@@ -2,15 +2,13 @@
 
 use super::*;
 use crate::expect::{expect_eq, expect_eq_at};
-use tz_base::error::parse::TzFileError::{
+use tz_base::error::LocalTimeTypeError::{InvalidTimeZoneDesignationChar, InvalidUtcOffset};
+use tz_base::error::TimeZoneError::{InvalidLeapSecond, InvalidLocalTimeTypeIndex};
+use tz_base::error::TzFileError::{
     InvalidDstIndicator, InvalidFooter, InvalidHeader, InvalidMagicNumber, InvalidStdWallUtLocal,
     InvalidTimeZoneDesignationCharIndex, RemainingDataV1, UnsupportedTzFileVersion,
 };
-use tz_base::error::parse::TzStringError::InvalidDayTimeHour;
-use tz_base::error::timezone::LocalTimeTypeError::{
-    InvalidTimeZoneDesignationChar, InvalidUtcOffset,
-};
-use tz_base::error::timezone::TimeZoneError::{InvalidLeapSecond, InvalidLocalTimeTypeIndex};
+use tz_base::error::TzStringError::InvalidDayTimeHour;
 
 /// The bytes are refused where some are missing at their end, and where one too many is there.
 fn expect_cut(rt: &impl Abort, alloc: Global, bytes: &[u8]) -> Result<(), AllocError> {

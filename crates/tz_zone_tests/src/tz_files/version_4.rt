@@ -2,10 +2,8 @@
 
 use super::*;
 use crate::expect::expect_eq;
-use tz_base::error::parse::TzFileError::{
-    InvalidFooter, RemainingDataV1, UnsupportedTzFileVersion,
-};
-use tz_base::error::timezone::TimeZoneError::InvalidLeapSecond;
+use tz_base::error::TimeZoneError::InvalidLeapSecond;
+use tz_base::error::TzFileError::{InvalidFooter, RemainingDataV1, UnsupportedTzFileVersion};
 use tz_samples::files::UTC_V4;
 
 /// The leap seconds and their expiry are those of the bytes.

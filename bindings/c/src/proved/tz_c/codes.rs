@@ -2,17 +2,14 @@
 //! The codes of errors and their texts, and the layout of structures.
 
 use crate::proved::tz_c::date_times::ParsedData;
-use crate::proved::tz_c::rules::ConflictData;
 use crate::proved::tz_c::texts::{SettingData, write_text};
 use crate::proved::tz_c::zone_data::ZoneData;
-use crate::proved::tz_c::zones::{ChangeData, OffsetsData, PartsData, SegmentData};
+use crate::proved::tz_c::zones::{ChangeData, ConflictData, OffsetsData, PartsData, SegmentData};
 use core::num::{IntErrorKind, ParseIntError};
 use tz::proved::tz::inner::{DateTimeData, Fields, FoundData, UtcData};
-use tz::proved::tz_base::error::TzError;
-use tz::proved::tz_base::error::datetime::DateTimeError;
-use tz::proved::tz_base::error::parse::{ParseDataError, TzFileError, TzStringError};
-use tz::proved::tz_base::error::timezone::{
-    LocalTimeTypeError, TimeZoneError, TransitionRuleError,
+use tz::proved::tz_base::error::{
+    DateTimeError, LocalTimeTypeError, ParseDataError, TimeZoneError, TransitionRuleError, TzError,
+    TzFileError, TzStringError,
 };
 use tz::proved::tz_rule::inner::{AlternateData, DayData, RuleData};
 use tz::proved::tz_rule::timezone::LocalTimeType;

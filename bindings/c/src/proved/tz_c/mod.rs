@@ -5,9 +5,7 @@
 pub(crate) mod codes;
 pub(crate) mod columns;
 pub(crate) mod date_times;
-pub(crate) mod files;
 
-pub(crate) mod rules;
 pub(crate) mod searches;
 pub(crate) mod texts;
 pub(crate) mod zone_data;

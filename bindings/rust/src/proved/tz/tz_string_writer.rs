@@ -2,6 +2,7 @@
 //! Writes the TZ strings of rules.
 
 use crate::proved::tz::text_buffer::TextBuffer;
+use crate::proved::tz_zone::inner::{DEFAULT_HOUR, DEFAULT_SAVING};
 use crate::proved::tz_zone::timezone::{AlternateTime, LocalTimeType, RuleDay, TransitionRule};
 use core::fmt;
 
@@ -14,11 +15,8 @@ pub struct TzString {
 /// Seconds of an hour.
 const HOUR: u32 = 3600;
 
-/// Two o'clock, the default time of day of a start or an end in a TZ string.
-const DEFAULT_TIME: i32 = 7200;
-
-/// How far daylight saving time is ahead of standard time, in seconds, if a TZ string does not say.
-const DEFAULT_SAVING: i32 = 3600;
+/// The default time of day of a start or an end in a TZ string, in seconds.
+const DEFAULT_TIME: i32 = 3600 * DEFAULT_HOUR as i32;
 
 /// The least offset in seconds that a TZ string cannot have.
 const LONG_OFFSET: i32 = 90_000;

@@ -1,5 +1,6 @@
 // Generated from crates/tz_base/src/fields.rt by bindings/erase: its contracts are cut. Change that file instead.
-//! The seven fields of a date time: their check, their reading, and the fields of a reading.
+//! The seven fields of a date time: their check, their reading, and the fields of a reading;
+//! instants as one total of nanoseconds, and as seconds and nanoseconds.
 //!
 //! A reading counts the seconds from 1970-01-01 00:00:00 to the fields of a date time, whatever
 //! clock shows them.
@@ -9,7 +10,7 @@ use crate::proved::tz_base::calendar::{
     moved_seconds, week_day_of_day,
 };
 use crate::proved::tz_base::constants::{NANOSECONDS_PER_SECOND, SECONDS_PER_DAY};
-use crate::proved::tz_base::error::datetime::DateTimeError;
+use crate::proved::tz_base::error::DateTimeError;
 
 /// The seven fields of a date time, in the order in which they are compared.
 #[repr(C)]
@@ -145,4 +146,21 @@ impl Fields {
     pub const fn year_day(&self) -> u16 {
         days_before_month(is_leap_year(self.year), self.month) + self.month_day as u16 - 1
     }
+}
+
+/// Nanoseconds from 1970-01-01T00:00:00Z on.
+pub const fn total_nanoseconds(unix_time: i64, nanoseconds: u32) -> i128 {
+    NANOSECONDS_PER_SECOND as i128 * unix_time as i128 + nanoseconds as i128
+}
+
+/// The seconds of a total of nanoseconds, rounded down, and the nanoseconds that remain, if the
+/// seconds fit 64 bits.
+pub const fn timespec(total: i128) -> Option<(i64, u32)> {
+    let nanoseconds_per_second = NANOSECONDS_PER_SECOND as i128;
+    let seconds = total.div_euclid(nanoseconds_per_second);
+    let nanoseconds = total.rem_euclid(nanoseconds_per_second) as u32;
+    if seconds < i64::MIN as i128 || seconds > i64::MAX as i128 {
+        return None;
+    }
+    Some((seconds as i64, nanoseconds))
 }

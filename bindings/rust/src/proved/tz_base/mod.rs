@@ -9,4 +9,3 @@ pub mod error;
 pub mod fields;
 
 pub mod order;
-pub mod total_nanoseconds;

@@ -5,6 +5,6 @@ mod clock;
 pub mod inner;
 
 mod leap;
-mod parse;
+pub(crate) mod parse;
 mod table;
 pub mod timezone;

@@ -3,8 +3,8 @@
 use Rattle.std.proofs.Common.{◌≡◌, ◌<◌, ◌≤◌, inl, inr, refl, rules, subst, ◌+ℤ◌}
 use Rattle.std.proofs.lemmas.Int.{to_z-of_z}
 use Rattle.tz_base.specs.Fields.{IsCivil, IsReading}
-use Rattle.tz_base.specs.declared.error.tz_error.TzError.TheVariants as faults
-use Rattle.tz_base.specs.declared.error.datetime.DateTimeError.TheVariants as field_faults
+use Rattle.tz_base.specs.declared.error.TzError.TheVariants as faults
+use Rattle.tz_base.specs.declared.error.DateTimeError.TheVariants as field_faults
 use mir.Syntax.{w32, w64}
 use mir.Val.{SFits}
 use Rattle.tz_zone.specs.Clock.{IsClock, IsLookupFault}

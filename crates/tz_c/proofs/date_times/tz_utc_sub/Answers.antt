@@ -2,8 +2,8 @@
 use Rattle.std.proofs.Common.{◌≡◌, ℕ, ◌*◌, ◌+◌, ◌<◌, ◌≤◌, inl, inr, refl, subst, arith, rules, pos, ◌-ℤ◌}
 use Rattle.std.specs.Duration.{as_nanos}
 use Rattle.std.proofs.lemmas.Bool.{false≢true}
-use Rattle.tz_base.specs.declared.error.tz_error.TzError.TheVariants as faults
-use Rattle.tz_base.specs.declared.error.datetime.DateTimeError.TheVariants as field_faults
+use Rattle.tz_base.specs.declared.error.TzError.TheVariants as faults
+use Rattle.tz_base.specs.declared.error.DateTimeError.TheVariants as field_faults
 use Rattle.tz.specs.DateTimes.{IsUtcTotal, utc_total}
 use Rattle.tz_c.proofs.date_times.tz_utc_sub.Goals as goal
 

@@ -1,16 +1,16 @@
 // Generated from crates/tz/src/datetime/date_time.rt by bindings/erase: its contracts are cut. Change that file instead.
 //! Date times of a local time type.
 
-use super::durations::duration_between;
-use super::slot_writer::Slot;
+use super::entry_takers::Slot;
+use super::utc_date_time::duration_between;
 use super::zone_data_searches::from_timespec;
 use super::{FoundDateTimeKind, UtcDateTime};
 use crate::proved::tz::text_buffer::TextBuffer;
 use crate::proved::tz_base::constants::NANOSECONDS_PER_SECOND;
-use crate::proved::tz_base::error::TzError;
-use crate::proved::tz_base::error::datetime::DateTimeError;
-use crate::proved::tz_base::fields::{Fields, is_reading, local_reading};
-use crate::proved::tz_base::total_nanoseconds::{timespec, total_nanoseconds};
+use crate::proved::tz_base::error::{DateTimeError, TzError};
+use crate::proved::tz_base::fields::{
+    Fields, is_reading, local_reading, timespec, total_nanoseconds,
+};
 use crate::proved::tz_rule::timezone::LocalTimeType;
 use crate::proved::tz_zone::inner::plain;
 use crate::proved::tz_zone::timezone::TimeZoneRef;

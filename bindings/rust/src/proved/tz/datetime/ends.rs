@@ -3,7 +3,7 @@
 
 use super::Disambiguation;
 use super::entry_takers::EntryTaker;
-use super::search::{give_in_window, passes_over, shown_at, types_of_window, window_of};
+use super::gaps_and_folds::{give_in_window, passes_over, shown_at, types_of_window, window_of};
 use crate::proved::tz_base::error::TzError;
 use crate::proved::tz_base::fields::local_reading;
 use crate::proved::tz_zone::inner::{Uncounted, WindowTypes, ZoneData};

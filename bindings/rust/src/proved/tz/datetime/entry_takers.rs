@@ -1,9 +1,11 @@
 // Generated from crates/tz/src/datetime/entry_takers.rt by bindings/erase: its contracts are cut. Change that file instead.
-//! What takes the entries of a search, which are instants that show a reading and jumps over it,
-//! and the lists to which they go as date times.
+//! What takes the entries of a search, which are instants that show a reading and jumps over it:
+//! their date times, whose fields are those that were searched for, and those of a jump are what
+//! both types show; and the lists to which these go, among them the slots of a caller.
 
-use super::FoundDateTimeKind;
+use super::{DateTime, FoundDateTimeKind};
 use crate::proved::tz_base::error::TzError;
+use crate::proved::tz_base::fields::Fields;
 use crate::proved::tz_zone::timezone::LocalTimeType;
 use crate::shim::alloc::AllocError;
 
@@ -25,4 +27,86 @@ pub(crate) trait EntryTaker<'a> {
 pub(crate) trait DateTimeList {
     /// Adds one at the end. If out of memory, it adds none.
     fn push(&mut self, found: FoundDateTimeKind) -> Result<(), AllocError>;
+}
+
+/// A list that takes the entries of fields as date times.
+pub(super) struct Dated<'l, L> {
+    pub(super) fields: &'l Fields,
+    pub(super) list: &'l mut L,
+}
+
+impl<'a, L: DateTimeList> EntryTaker<'a> for Dated<'_, L> {
+    #[inline(always)]
+    fn shown(&mut self, unix_time: i64, local_time_type: &'a LocalTimeType) -> Result<(), TzError> {
+        let date_time = DateTime::of_fields(self.fields, *local_time_type, unix_time);
+        self.list.push(FoundDateTimeKind::Normal(date_time))?;
+        Ok(())
+    }
+
+    #[inline(always)]
+    fn skipped(
+        &mut self,
+        unix_time: i64,
+        before: &'a LocalTimeType,
+        after: &'a LocalTimeType,
+    ) -> Result<(), TzError> {
+        let before_transition = DateTime::shown_by(unix_time, self.fields.nanoseconds, *before)?;
+        let after_transition = DateTime::shown_by(unix_time, self.fields.nanoseconds, *after)?;
+        self.list.push(FoundDateTimeKind::Skipped {
+            before_transition,
+            after_transition,
+        })?;
+        Ok(())
+    }
+}
+
+/// What holds one entry of a list.
+pub(crate) trait Slot {
+    /// Writes an entry to the slot.
+    fn set(&mut self, found: &FoundDateTimeKind);
+}
+
+impl Slot for Option<FoundDateTimeKind> {
+    #[inline(always)]
+    fn set(&mut self, found: &FoundDateTimeKind) {
+        *self = Some(*found);
+    }
+}
+
+/// The slots that a search writes to in order from one of its entries on, and how many it found.
+pub(crate) struct SlotWriter<'a, S> {
+    slots: &'a mut [S],
+    skip: usize,
+    pub(super) count: usize,
+}
+
+impl<'a, S: Slot> SlotWriter<'a, S> {
+    /// Nothing is found yet. The first entries, this many, get no slot.
+    #[inline(always)]
+    pub(super) const fn new(slots: &'a mut [S], skip: usize) -> Self {
+        SlotWriter {
+            slots,
+            skip,
+            count: 0,
+        }
+    }
+
+    /// Counts one more, and writes it to its slot, if there is one.
+    fn write(&mut self, found: &FoundDateTimeKind) {
+        if self.skip <= self.count {
+            let index = self.count - self.skip;
+            if index < self.slots.len() {
+                self.slots[index].set(found);
+            }
+        }
+        // A list has at most 2^33 entries, so the count never comes to its end.
+        self.count = self.count.saturating_add(1);
+    }
+}
+
+impl<S: Slot> DateTimeList for SlotWriter<'_, S> {
+    fn push(&mut self, found: FoundDateTimeKind) -> Result<(), AllocError> {
+        self.write(&found);
+        Ok(())
+    }
 }

@@ -1,9 +1,8 @@
 // Generated from crates/tz/src/datetime/find.rt by bindings/erase: its contracts are cut. Change that file instead.
 //! The date times at which the clock of a zone shows given fields.
 
-use super::entry_takers::DateTimeList;
-use super::search::search;
-use super::slot_writer::SlotWriter;
+use super::entry_takers::{DateTimeList, SlotWriter};
+use super::gaps_and_folds::search;
 use super::{DateTime, FoundDateTimeKind, FoundDateTimeList, FoundDateTimeListRefMut, UtcDateTime};
 use crate::proved::tz_base::error::TzError;
 use crate::proved::tz_base::fields::Fields;

@@ -3,12 +3,11 @@
 
 use super::date_time::FoundData;
 use super::ends::meant_in;
-use super::search::search;
-use super::slot_writer::SlotWriter;
+use super::entry_takers::SlotWriter;
+use super::gaps_and_folds::search;
 use super::{DateTime, Disambiguation};
 use crate::proved::tz_base::constants::NANOSECONDS_PER_SECOND;
-use crate::proved::tz_base::error::TzError;
-use crate::proved::tz_base::error::datetime::DateTimeError;
+use crate::proved::tz_base::error::{DateTimeError, TzError};
 use crate::proved::tz_base::fields::Fields;
 use crate::proved::tz_zone::inner::{Uncounted, ZoneData};
 

@@ -5,7 +5,7 @@
 use super::rule_day::DayData;
 use super::year_table::YearTable;
 use super::{LocalTimeType, RuleDay};
-use crate::proved::tz_base::error::timezone::TransitionRuleError;
+use crate::proved::tz_base::error::TransitionRuleError;
 use core::fmt;
 
 /// Whether the offset is above -25 and below 26 hours.

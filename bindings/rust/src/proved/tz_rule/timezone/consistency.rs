@@ -13,12 +13,12 @@ use crate::proved::tz_base::constants::{SECONDS_PER_DAY, SECONDS_PER_NORMAL_YEAR
 const PAIR_KINDS: usize = 21;
 
 /// The kind of the first year of each pair kind.
-static FIRST_KINDS: [u8; PAIR_KINDS] = [
+const FIRST_KINDS: [u8; PAIR_KINDS] = [
     0, 1, 2, 3, 4, 5, 6, 0, 1, 2, 3, 4, 5, 6, 7, 8, 9, 10, 11, 12, 13,
 ];
 
 /// The kind of the second year of each pair kind.
-static SECOND_KINDS: [u8; PAIR_KINDS] = [
+const SECOND_KINDS: [u8; PAIR_KINDS] = [
     1, 2, 3, 4, 5, 6, 0, 8, 9, 10, 11, 12, 13, 7, 2, 3, 4, 5, 6, 0, 1,
 ];
 

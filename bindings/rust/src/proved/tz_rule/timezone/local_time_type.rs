@@ -1,7 +1,7 @@
 // Generated from crates/tz_rule/src/timezone/local_time_type.rt by bindings/erase: its contracts are cut. Change that file instead.
 //! Local time types.
 
-use crate::proved::tz_base::error::timezone::LocalTimeTypeError;
+use crate::proved::tz_base::error::LocalTimeTypeError;
 use core::fmt;
 
 /// A name of one to seven ASCII bytes, or none, of length 0. The bytes after the name are zero.

@@ -2,7 +2,7 @@
 //! The days of a year that a rule can name.
 
 use crate::proved::tz_base::calendar;
-use crate::proved::tz_base::error::timezone::TransitionRuleError;
+use crate::proved::tz_base::error::TransitionRuleError;
 
 /// The day of a month of this length, counted from 0, on which a week day falls for the w-th time,
 /// or for week 5 for the last time, if it first falls on day `first`.

@@ -1,7 +1,7 @@
 // Generated from crates/tz_zone/src/clock/lookup.rt by bindings/erase: its contracts are cut. Change that file instead.
 //! The clock's type at an instant, over a view of the transitions.
 
-use super::position::position_at;
+use super::binary_search::position_at;
 use super::segment::Segment;
 use crate::proved::tz_base::error::TzError;
 use crate::proved::tz_rule::timezone::LocalTimeType;

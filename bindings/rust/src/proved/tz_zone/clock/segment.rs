@@ -1,8 +1,8 @@
 // Generated from crates/tz_zone/src/clock/segment.rt by bindings/erase: its contracts are cut. Change that file instead.
 //! Changes of a clock, and segments: spans of time through which it keeps its type.
 
+use super::binary_search::position_at;
 use super::lookup::{after_table, before, type_of};
-use super::position::position_at;
 use crate::proved::tz_rule::timezone::LocalTimeType;
 use crate::proved::tz_zone::leap::LeapSecond;
 use crate::proved::tz_zone::leap::leap_time::{

@@ -1,8 +1,8 @@
 // Generated from crates/tz_zone/src/clock/window_types.rt by bindings/erase: its contracts are cut. Change that file instead.
 //! The types that a clock has in a window of instants, and its spans one after the other.
 
+use super::binary_search::{position_at, position_of};
 use super::lookup::{after_table, type_before, type_of};
-use super::position::{position_at, position_of};
 use crate::proved::tz_rule::timezone::LocalTimeType;
 use crate::proved::tz_zone::leap::leap_time::{
     effect_of_reached, first_begun, last_before, leap_time, stay_before,

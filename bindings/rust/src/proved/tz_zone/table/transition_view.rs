@@ -1,6 +1,6 @@
 //! By hand, in the place of crates/tz_zone/src/table/transition_view.rt: methods of a trait are not const, so there is one view, which does not count.
 
-use super::transition::Transition;
+use super::Transition;
 
 /// Transitions as a function reads them: one at a time.
 pub struct Uncounted<'a> {

@@ -3,12 +3,11 @@
 
 mod changes;
 pub(crate) mod files;
-pub(crate) mod plain_zone;
-mod settings;
+pub(crate) mod settings;
 mod zone;
 mod zone_checks;
 pub(crate) mod zone_data;
-mod zone_of_bytes;
+mod zone_names;
 mod zone_ref;
 
 pub use crate::proved::tz_rule::timezone::{
@@ -20,6 +19,7 @@ pub use crate::proved::tz_zone::leap::LeapSecond;
 pub use crate::proved::tz_zone::table::Transition;
 pub use changes::{ChangesAfter, ChangesBefore};
 pub use files::{read_file, read_file_up_to, read_up_to};
-pub use settings::{DEFAULT_DIRECTORIES, TimeZoneSettings, is_zone_name};
+pub use settings::{DEFAULT_DIRECTORIES, TimeZoneSettings};
 pub use zone::TimeZone;
+pub use zone_names::is_zone_name;
 pub use zone_ref::TimeZoneRef;

@@ -1,54 +1,15 @@
 // Generated from crates/tz_zone/src/timezone/settings.rt by bindings/erase: its contracts are cut. Change that file instead.
-//! Names of time zones.
+//! Settings: the files that a name means in directories, and the zone of a name, of the environment
+//! variable TZ's text or of the machine.
 
 use super::TimeZone;
-use super::zone_of_bytes::zone_of_tz_string;
-use crate::proved::tz_base::error::parse::TzStringError;
-use crate::proved::tz_base::error::{Error, ReadFault, TzError};
-use crate::shim::Vec;
-use crate::shim::alloc::{Allocator, Global};
+use super::zone_names::{is_zone_name, no_such_zone, not_a_name};
+use crate::proved::tz_base::error::{Error, ReadFault, TzError, TzStringError};
+use crate::proved::tz_zone::parse::tz_string::zone_of_tz_string;
+use crate::shim::ArrayString;
+use crate::shim::alloc::{AllocError, Allocator};
 use crate::shim::anyhow;
-
-/// Whether a name may have the byte.
-fn is_name_byte(byte: u8) -> bool {
-    matches!(byte, b'0'..=b'9' | b'A'..=b'Z' | b'a'..=b'z' | b'.' | b'_' | b'+' | b'-')
-}
-
-/// Whether all of the bytes may stand in a name.
-fn are_name_bytes(part: &[u8]) -> bool {
-    for byte in part {
-        if !is_name_byte(*byte) {
-            return false;
-        }
-    }
-    true
-}
-
-/// Whether a name may have the part.
-fn is_name_part(part: &[u8]) -> bool {
-    !matches!(part, [] | [b'.'] | [b'.', b'.']) && are_name_bytes(part)
-}
-
-/// Whether the text is a name of the form that [`TimeZone::named`](crate::timezone::TimeZone::named) looks
-/// for. (tz database, Timezone identifiers)
-///
-/// A name has one part or several, with `/` between them. A part is one or more ASCII letters,
-/// digits, `.`, `_`, `+` and `-`, and neither `.` nor `..`.
-pub fn is_zone_name(name: &str) -> bool {
-    name.as_bytes()
-        .split(|byte| *byte == b'/')
-        .all(is_name_part)
-}
-
-/// The error of a text that is no name.
-pub(super) fn not_a_name(text: &str) -> crate::shim::anyhow::Error {
-    anyhow!("not a time zone name: {text}")
-}
-
-/// The error of a name that no zone has.
-pub(super) fn no_such_zone(name: &str) -> crate::shim::anyhow::Error {
-    anyhow!("no time zone has the name {name}")
-}
+use crate::shim::{String, Vec};
 
 /// The directories in which systems keep their time zone files.
 pub const DEFAULT_DIRECTORIES: &[&str] =
@@ -92,8 +53,8 @@ fn zone_of_found<A: Allocator + Copy>(
 /// The function returns the bytes of the file at a path. It is called with each path in turn until
 /// it returns bytes or `ReadFault::Memory`.
 pub struct TimeZoneSettings<'a, F> {
-    pub(super) directories: &'a [&'a str],
-    pub(super) reader: F,
+    directories: &'a [&'a str],
+    reader: F,
 }
 
 impl<'a, F: Fn(&str) -> Result<Vec<u8>, ReadFault>> TimeZoneSettings<'a, F> {
@@ -269,5 +230,120 @@ impl<A: Allocator + Copy> TimeZone<A> {
     ) -> Result<Self, Error> {
         let settings = TimeZoneSettings::new(DEFAULT_DIRECTORIES, reader);
         settings.zone_of_name(alloc, name)
+    }
+}
+
+/// How long a path may be that needs no memory: those of the names of the time zone database are
+/// shorter.
+const USUAL_LEN: usize = 96;
+
+/// Whether the name is a path of its own.
+fn is_absolute(name: &str) -> bool {
+    matches!(name.as_bytes(), [b'/', ..])
+}
+
+/// Writes the path of a name in a directory into the room of usual paths, and returns it, or `None`
+/// where the room is too short.
+#[inline(always)]
+fn usual_path<'p>(
+    room: &'p mut ArrayString<USUAL_LEN>,
+    directory: &str,
+    name: &str,
+) -> Option<&'p str> {
+    room.clear();
+    if room.try_push_str(directory).is_err()
+        || room.try_push_str("/").is_err()
+        || room.try_push_str(name).is_err()
+    {
+        return None;
+    }
+    Some(room.as_str())
+}
+
+/// The path of a name in a directory, in memory.
+fn long_path<A: Allocator + Copy>(
+    alloc: A,
+    directory: &str,
+    name: &str,
+) -> Result<String<A>, AllocError> {
+    let mut path = String::with_capacity(alloc, directory.len() + 1 + name.len())?;
+    path.push_str(directory)?;
+    path.push_str("/")?;
+    path.push_str(name)?;
+    Ok(path)
+}
+
+impl<F: Fn(&str) -> Result<Vec<u8>, ReadFault>> TimeZoneSettings<'_, F> {
+    /// What the reader returns for the path.
+    fn read(&self, path: &str) -> Result<Vec<u8>, ReadFault> {
+        (self.reader)(path)
+    }
+
+    /// The file at the path, or `None` if it cannot be read. The reader's fault is dropped at once.
+    #[inline(always)]
+    fn read_if_there(&self, path: &str) -> Result<Option<Vec<u8>>, AllocError> {
+        match self.read(path) {
+            Ok(bytes) => Ok(Some(bytes)),
+            Err(ReadFault::Memory(error)) => Err(error),
+            Err(ReadFault::Failed(_)) => Ok(None),
+        }
+    }
+
+    /// The file with the name in the directory, or `None` if it cannot be read.
+    #[inline(always)]
+    fn find_in_directory<A: Allocator + Copy>(
+        &self,
+        alloc: A,
+        room: &mut ArrayString<USUAL_LEN>,
+        directory: &str,
+        name: &str,
+    ) -> Result<Option<Vec<u8>>, AllocError> {
+        if let Some(path) = usual_path(room, directory, name) {
+            return self.read_if_there(path);
+        }
+        let path = long_path(alloc, directory, name)?;
+        self.read_if_there(path.as_str())
+    }
+
+    /// The file with the name in the first of the directories that has it, or `None` where none has
+    /// it.
+    fn find_in_directories<A: Allocator + Copy>(
+        &self,
+        alloc: A,
+        name: &str,
+    ) -> Result<Option<Vec<u8>>, AllocError> {
+        let mut room = ArrayString::new();
+        for directory in self.directories {
+            let found = self.find_in_directory(alloc, &mut room, directory, name)?;
+            if let Some(bytes) = found {
+                return Ok(Some(bytes));
+            }
+        }
+        Ok(None)
+    }
+
+    /// The file with the name.
+    fn find<A: Allocator + Copy>(&self, alloc: A, name: &str) -> Result<Vec<u8>, ReadFault> {
+        if is_absolute(name) {
+            return self.read(name);
+        }
+        let found = self.find_in_directories(alloc, name)?;
+        match found {
+            Some(bytes) => Ok(bytes),
+            None => Err(ReadFault::Failed(anyhow!("file was not found"))),
+        }
+    }
+
+    /// The file with the name, or `None` if it cannot be read. No text is made for an error that
+    /// nobody sees.
+    fn find_readable<A: Allocator + Copy>(
+        &self,
+        alloc: A,
+        name: &str,
+    ) -> Result<Option<Vec<u8>>, AllocError> {
+        if !is_absolute(name) {
+            return self.find_in_directories(alloc, name);
+        }
+        self.read_if_there(name)
     }
 }

@@ -3,8 +3,7 @@
 //! and a rule that agrees with the last transition.
 
 use super::{LeapSecond, LocalTimeType, Transition};
-use crate::proved::tz_base::error::TzError;
-use crate::proved::tz_base::error::timezone::TimeZoneError;
+use crate::proved::tz_base::error::{TimeZoneError, TzError};
 use crate::proved::tz_rule::inner::RuleRef;
 use crate::proved::tz_zone::leap::leap_time::effect;
 use crate::proved::tz_zone::leap::table::{are_leap_seconds, has_begun_at};

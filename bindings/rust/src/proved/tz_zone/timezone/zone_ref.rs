@@ -15,7 +15,7 @@ use core::fmt;
 /// does.
 #[derive(Clone, Copy)]
 pub struct TimeZoneRef<'a> {
-    pub(super) plain: ZoneData<'a>,
+    pub(crate) plain: ZoneData<'a>,
     // The rule that `plain` keeps, as `extra_rule` returns it.
     extra_rule: &'a Option<TransitionRule>,
 }

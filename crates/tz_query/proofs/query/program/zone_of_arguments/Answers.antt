@@ -6,11 +6,11 @@ use Rattle.std.proofs.lemmas.Fn.{says_at}
 use Rattle.std.proofs.lemmas.Int.{to_z-of_z}
 use Rattle.std.proofs.lemmas.Result.{err_from_is_err_and}
 use mir.Syntax.{w32}
-use Rattle.tz_base.specs.declared.error.tz_error.Error.{Error}
+use Rattle.tz_base.specs.declared.error.Error.{Error}
 use Rattle.anyhow.specs.declared.error.Error.{Error as Failure}
-use Rattle.tz_base.specs.declared.error.tz_error.Error.TheVariants.{Io, Tz}
-use Rattle.tz_base.specs.declared.error.tz_error.TzError.{TzError}
-use Rattle.tz_base.specs.declared.error.tz_error.TzError.TheVariants.{Memory}
+use Rattle.tz_base.specs.declared.error.Error.TheVariants.{Io, Tz}
+use Rattle.tz_base.specs.declared.error.TzError.{TzError}
+use Rattle.tz_base.specs.declared.error.TzError.TheVariants.{Memory}
 use Rattle.tz_rule.specs.LocalTimeType.{IsOffset}
 use Rattle.tz_zone.specs.Settings.{Read, IsSettingsAnswer}
 use Rattle.tz_zone.specs.Table.{Zone}

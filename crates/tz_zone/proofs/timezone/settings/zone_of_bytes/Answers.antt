@@ -1,5 +1,5 @@
 use Rattle.std.proofs.Common.{refl, ap, inl, inr}
-use Rattle.tz_base.specs.declared.error.tz_error.Error.TheVariants.{Tz}
+use Rattle.tz_base.specs.declared.error.Error.TheVariants.{Tz}
 use Rattle.tz_zone.proofs.TzFileLaws.{file_holds}
 use Rattle.tz_zone.proofs.timezone.settings.zone_of_bytes.Goals as goal
 

@@ -3,7 +3,7 @@ use Rattle.std.proofs.Common.{refl, ℕ, List, [], ◌∷◌, lit<, Ok, Err}
 use Rattle.std.specs.Prelude.{Result}
 use denote.Builtin.{u64}
 use Rattle.std.specs.contracts.result.Result as result
-use Rattle.tz_base.specs.contracts.error.tz_error.TzError as fault
+use Rattle.tz_base.specs.contracts.error.TzError as fault
 use Rattle.tz_base.proofs.error.TzError.TheLaws as fault_laws
 use Rattle.tz.specs.contracts.datetime.find.Refused as refused
 use Rattle.tz.specs.contracts.datetime.found.FoundDateTimeListRefMut as list

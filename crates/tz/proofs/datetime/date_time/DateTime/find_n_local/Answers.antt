@@ -1,7 +1,7 @@
 -- The zone that is searched is that of the call, and so are the fields and the fault.
 use Rattle.std.proofs.Common.{subst, Err}
 use Rattle.std.specs.Prelude.{Result}
-use Rattle.tz_base.specs.declared.error.tz_error.TzError.{TzError}
+use Rattle.tz_base.specs.declared.error.TzError.{TzError}
 use Rattle.tz_zone.specs.Table.{Zone}
 use Rattle.tz.specs.Outcomes.{IsOutcome}
 use Rattle.tz.specs.declared.datetime.found.FoundDateTimeListRefMut.{FoundDateTimeListRefMut}

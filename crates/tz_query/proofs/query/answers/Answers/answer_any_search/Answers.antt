@@ -1,7 +1,7 @@
 -- The first error of the fields, or what they mean.
 use Rattle.std.proofs.Common.{◌++◌, ◌∷◌, [], inl, inr, refl}
 use Rattle.std.specs.Prelude.{codes}
-use Rattle.tz_base.specs.declared.error.tz_error.TzError.TheVariants.{DateTime}
+use Rattle.tz_base.specs.declared.error.TzError.TheVariants.{DateTime}
 use Rattle.tz_query.specs.Answers.{field_fault_text}
 use Rattle.tz_query.proofs.AddedText.{answer_written}
 use Rattle.tz_query.specs.declared.query.lines.Query.TheVariants.{Search}

@@ -3,8 +3,8 @@ use Rattle.std.proofs.Common.{◌∷◌, [], inl, inr, refl, arith}
 use Rattle.std.specs.Prelude.{codes}
 use Rattle.std.proofs.lemmas.Int.{to_z-of_z}
 use mir.Syntax.{w64}
-use Rattle.tz_base.specs.declared.error.tz_error.TzError.TheVariants.{DateTime}
-use Rattle.tz_base.specs.declared.error.datetime.DateTimeError.TheVariants.{InvalidNanoseconds}
+use Rattle.tz_base.specs.declared.error.TzError.TheVariants.{DateTime}
+use Rattle.tz_base.specs.declared.error.DateTimeError.TheVariants.{InvalidNanoseconds}
 use Rattle.tz_query.proofs.AddedText.{answer_written}
 use Rattle.tz_query.specs.declared.query.lines.Query.TheVariants.{Time}
 use Rattle.tz_query.proofs.query.answers.Answers.answer_any_time.Goals as goal

@@ -3,7 +3,7 @@ use Rattle.std.proofs.Common.{◌≡◌, ◌∷◌, [], ◌++◌, inl, inr, refl
 use Rattle.std.specs.Prelude.{codes}
 use Rattle.std.specs.List.{All}
 use Rattle.std.proofs.lemmas.Result.{IfOk-weaker}
-use Rattle.tz_base.specs.declared.error.tz_error.TzError.TheVariants.{DateTime, OutOfRange}
+use Rattle.tz_base.specs.declared.error.TzError.TheVariants.{DateTime, OutOfRange}
 use Rattle.tz_zone.specs.Clock.{IsClock}
 use Rattle.tz.specs.Lists.{found_of}
 use Rattle.tz_zone.specs.Table.{Zone}

@@ -5,7 +5,7 @@ use Rattle.std.proofs.lemmas.Int.{to_z-of_z}
 use Rattle.std.proofs.lemmas.Result.{IfOk-weaker}
 use mir.Syntax.{w32, w64}
 use Rattle.tz_base.specs.Fields.{IsCivil, IsReading}
-use Rattle.tz_base.specs.declared.error.tz_error.TzError.TheVariants.{OutOfRange}
+use Rattle.tz_base.specs.declared.error.TzError.TheVariants.{OutOfRange}
 use Rattle.tz.specs.DateTimes.{DateTime, moment_of}
 use Rattle.tz.specs.PrintedText.{moment_text}
 use Rattle.tz_query.specs.Nanoseconds.{number_of}

@@ -1,7 +1,7 @@
 -- A name is looked for in the directories, and any other text is refused at once.
 use Rattle.std.proofs.Common.{refl, inr, Ok, Err}
 use Rattle.std.specs.Fn.{FnReturnsAt}
-use Rattle.tz_base.specs.declared.error.tz_error.ReadFault.TheVariants.{Failed}
+use Rattle.tz_base.specs.declared.error.ReadFault.TheVariants.{Failed}
 use Rattle.tz_zone.specs.Settings.{FindsIn}
 use Rattle.tz_zone.specs.SettingsParts.{directories_of, reader_of}
 use Rattle.tz_zone.specs.ZoneNames.{IsZoneNameAnswer}

@@ -2,7 +2,7 @@
 use Rattle.std.proofs.Common.{◌≡◌}
 use Rattle.std.specs.Prelude.{alloc_error}
 use Rattle.std.proofs.lemmas.Result.{MatchResult-from_both, IfOk-weaker, IfErr-weaker}
-use Rattle.tz_base.specs.declared.error.tz_error.TzError.TheVariants.{Memory}
+use Rattle.tz_base.specs.declared.error.TzError.TheVariants.{Memory}
 use Rattle.tz_zone.specs.TzFile.{IsTzFile}
 use Rattle.tz_zone.specs.TzFileFault.{IsReadFault}
 use Rattle.tz_zone.specs.ZoneRef.{own_zone_of}

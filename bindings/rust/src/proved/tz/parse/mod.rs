@@ -1,9 +1,0 @@
-// Generated from crates/tz/src/parse/mod.rt by bindings/erase: its contracts are cut. Change that file instead.
-//! Printed date times read back. (RFC 3339, section 5.6)
-
-pub(crate) mod date_and_time;
-mod error;
-mod parsed_date_time;
-
-pub use error::{DateTimePart, ParseDateTimeError};
-pub use parsed_date_time::ParsedDateTime;

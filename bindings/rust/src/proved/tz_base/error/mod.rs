@@ -1,9 +1,0 @@
-// Generated from crates/tz_base/src/error/mod.rt by bindings/erase: its contracts are cut. Change that file instead.
-//! The error types, and what `?` makes of an error.
-
-pub mod datetime;
-pub mod parse;
-pub mod timezone;
-mod tz_error;
-
-pub use tz_error::{Error, ReadFault, TzError};

@@ -1,0 +1,226 @@
+// Generated from crates/tz_zone/src/clock/binary_search.rt by bindings/erase: its contracts are cut. Change that file instead.
+//! How many transitions are reached at an instant: a guess by the time, which two looks confirm, or
+//! a binary search.
+
+use crate::proved::tz_zone::leap::leap_time::leap_time;
+use crate::proved::tz_zone::table::{Transition, Uncounted};
+use crate::proved::tz_zone::timezone::zone_data::ZoneData;
+
+/// How many positions the last seven looks of a halving choose from.
+const BLOCK: usize = 128;
+
+/// Half a mean Gregorian year, in seconds: clocks with daylight saving time change twice a year.
+const HALF_YEAR: u64 = 15_778_476;
+
+/// The fewest transitions at which a position is guessed: fewer are halved as fast.
+const LEAST_GUESSED: usize = 9;
+
+/// The most transitions at which a position is guessed: more of them are hardly half a year apart.
+const MOST_GUESSED: usize = 1024;
+
+/// The greatest power of two up to a number.
+#[inline(always)]
+const fn power_up_to(number: usize) -> usize {
+    1 << number.ilog2()
+}
+
+/// The later of two positions, if the transition before it is reached at a leap time, or else the
+/// earlier one.
+#[inline(always)]
+const fn position_after_look(
+    view: &mut Uncounted<'_>,
+    position: usize,
+    later: usize,
+    unix_leap_time: i64,
+) -> usize {
+    if view.look(later - 1).unix_leap_time() <= unix_leap_time {
+        later
+    } else {
+        position
+    }
+}
+
+/// Of twice `count` positions from `position` on, the first of the `count` among which the leap
+/// time's position is, by a look at the transition in the middle.
+#[inline(always)]
+const fn half(
+    view: &mut Uncounted<'_>,
+    position: usize,
+    count: usize,
+    unix_leap_time: i64,
+) -> usize {
+    // By this read the proof knows that the sum fits.
+    let _len = view.len();
+    position_after_look(view, position, position + count, unix_leap_time)
+}
+
+/// Halves `count` positions from `position` on until `least` of them are left, both powers of two,
+/// and returns the first of these.
+///
+/// A step compares once, and changes `position` by that alone; no step needs a branch of its own.
+#[inline(always)]
+const fn halved(
+    view: &mut Uncounted<'_>,
+    position: usize,
+    count: usize,
+    least: usize,
+    unix_leap_time: i64,
+) -> usize {
+    let mut position = position;
+    let mut left = count;
+    while left != least {
+        left /= 2;
+        position = half(view, position, left, unix_leap_time);
+    }
+    position
+}
+
+/// The position of a leap time among 128, by seven looks. Each distance is a constant, so a step
+/// takes five instructions and no branch.
+#[inline(always)]
+const fn position_in_block(
+    view: &mut Uncounted<'_>,
+    position: usize,
+    unix_leap_time: i64,
+) -> usize {
+    let among_64 = half(view, position, 64, unix_leap_time);
+    let among_32 = half(view, among_64, 32, unix_leap_time);
+    let among_16 = half(view, among_32, 16, unix_leap_time);
+    let among_8 = half(view, among_16, 8, unix_leap_time);
+    let among_4 = half(view, among_8, 4, unix_leap_time);
+    let among_2 = half(view, among_4, 2, unix_leap_time);
+    half(view, among_2, 1, unix_leap_time)
+}
+
+/// The position at which a leap time before the last transition lies, by halving.
+///
+/// After the first look the number of positions to choose from is a power of two.
+#[inline(always)]
+const fn position_by_halving(view: &mut Uncounted<'_>, unix_leap_time: i64) -> usize {
+    let count = view.len();
+    if count == 1 {
+        return 0;
+    }
+    let power = power_up_to(count - 1);
+    let first = position_after_look(view, 0, count - power, unix_leap_time);
+    if power < BLOCK {
+        return halved(view, first, power, 1, unix_leap_time);
+    }
+    let block = halved(view, first, power, BLOCK, unix_leap_time);
+    position_in_block(view, block, unix_leap_time)
+}
+
+/// The first of three positions, at one of which a leap time before the last transition lies if two
+/// transitions come in each year.
+#[inline(always)]
+const fn first_by_time(view: &mut Uncounted<'_>, unix_leap_time: i64) -> usize {
+    let count = view.len();
+    let left = view
+        .look(count - 1)
+        .unix_leap_time()
+        .abs_diff(unix_leap_time);
+    let half_years = crate::shim::greatest!(
+        crate::shim::least!((left / HALF_YEAR), (count - 3) as u64),
+        1
+    );
+    count - 2 - half_years as usize
+}
+
+/// Whether a leap time lies at one of three positions, by the transitions on either side of them.
+#[inline(always)]
+const fn is_among_three(view: &mut Uncounted<'_>, position: usize, unix_leap_time: i64) -> bool {
+    // By this read the proof knows that the sum fits.
+    let _len = view.len();
+    view.look(position - 1).unix_leap_time() <= unix_leap_time
+        && unix_leap_time < view.look(position + 2).unix_leap_time()
+}
+
+/// The position of a leap time among three.
+#[inline(always)]
+const fn position_among_three(
+    view: &mut Uncounted<'_>,
+    position: usize,
+    unix_leap_time: i64,
+) -> usize {
+    // By this read the proof knows that the sums fit.
+    let _len = view.len();
+    let next = position_after_look(view, position, position + 1, unix_leap_time);
+    position_after_look(view, next, position + 2, unix_leap_time)
+}
+
+/// The position of a leap time before the last transition, if it is one of the three positions by
+/// time.
+#[inline(always)]
+const fn guessed(view: &mut Uncounted<'_>, unix_leap_time: i64) -> Option<usize> {
+    let first = first_by_time(view, unix_leap_time);
+    if is_among_three(view, first, unix_leap_time) {
+        Some(position_among_three(view, first, unix_leap_time))
+    } else {
+        None
+    }
+}
+
+/// The position at which a leap time before the last transition lies: by a guess, or else by
+/// halving.
+///
+/// A guess may take looks in vain, so there is none if looks are counted. It decides nothing by
+/// itself: it is taken only if the transitions around it show that it is right.
+#[inline(always)]
+const fn position_before(view: &mut Uncounted<'_>, unix_leap_time: i64) -> usize {
+    let count = view.len();
+    if count >= LEAST_GUESSED && count <= MOST_GUESSED && !view.is_counted() {
+        if let Some(position) = guessed(view, unix_leap_time) {
+            return position;
+        }
+    }
+    position_by_halving(view, unix_leap_time)
+}
+
+/// The position at which a leap time lies. If the last transition is reached, no other one is
+/// looked at.
+#[inline(always)]
+pub(super) const fn position_of(
+    view: &mut Uncounted<'_>,
+    last: Transition,
+    unix_leap_time: i64,
+) -> usize {
+    if last.unix_leap_time() <= unix_leap_time {
+        return view.len();
+    }
+    position_before(view, unix_leap_time)
+}
+
+/// The position at which an instant lies: how many transitions are reached. There is none if the
+/// instant has no leap time.
+///
+/// The last transition is looked at first: if it is reached, no other one is looked at.
+#[inline(always)]
+pub(super) const fn position_at(
+    view: &mut Uncounted<'_>,
+    zone: &ZoneData<'_>,
+    unix_time: i64,
+) -> Option<usize> {
+    let count = view.len();
+    let last = view.look(count - 1);
+    let Some(unix_leap_time) = leap_time(zone.leap_seconds, unix_time) else {
+        return None;
+    };
+    Some(position_of(view, last, unix_leap_time))
+}
+
+/// The position at which an instant lies in a zone that has transitions, if it has a leap time.
+/// Looks are not counted here, so none is taken before the leap time is known.
+#[inline(always)]
+pub(super) const fn position_in(zone: &ZoneData<'_>, unix_time: i64) -> Option<usize> {
+    let transitions = zone.transitions;
+    let unix_leap_time = match leap_time(zone.leap_seconds, unix_time) {
+        Some(value) => value,
+        None => return None,
+    };
+    let last = transitions[transitions.len() - 1];
+    Some(position_of(
+        &mut Uncounted::new(transitions),
+        last,
+        unix_leap_time,
+    ))
+}

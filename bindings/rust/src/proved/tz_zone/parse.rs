@@ -1,0 +1,13 @@
+// Generated from crates/tz_zone/src/parse.rt by bindings/erase: its contracts are cut. Change that file instead.
+//! Readers of TZif files and of TZ strings.
+
+pub(crate) mod tz_file;
+pub(crate) mod tz_string;
+
+/// The bytes after a byte, if they begin with it.
+pub fn after_byte(text: &[u8], byte: u8) -> Option<&[u8]> {
+    match text {
+        [first, rest @ ..] if *first == byte => Some(rest),
+        _ => None,
+    }
+}

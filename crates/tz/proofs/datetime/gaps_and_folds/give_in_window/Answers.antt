@@ -1,0 +1,103 @@
+-- The clock has one type in the window, or two with a jump between them, or a walk finds what it has.
+use Rattle.std.proofs.Common.{◌≡◌, [], ◌∷◌, refl, subst, arith, rules, ◌-ℤ◌}
+use Rattle.std.proofs.lemmas.Int.{ints, to_z-of_z}
+use Rattle.std.proofs.lemmas.Result.{IfErr-weaker, on_ok_weaker}
+use mir.Syntax.{w64}
+use Rattle.tz_zone.specs.Clock.{IsClock}
+use Rattle.tz_zone.specs.ZoneOfData.{zone_of_data}
+use Rattle.tz.specs.Entries.{HasTwoTypes, Shown}
+use Rattle.tz.proofs.EntryWalks.{entries_once, few_entries}
+use Rattle.tz.proofs.datetime.gaps_and_folds.give_in_window.Goals as goal
+
+pub shown-requires : goal.shown-requires
+shown-requires g c =
+    let u = c.shown_at.result in
+    let at : u ≡ c.args.reading -ℤ c.in-One.local_time_type.now.ut_offset =
+    rw (to_z-of_z w64 c.args.reading c.ranges.reading) at c.shown_at.ensures in
+    rw (to_z-of_z w64 u (search rules))
+    (λ k. (
+      (refl, tt),
+      subst (g.E.EntryTaker.takes c.args.entries.now) (omega (arith, ints, at))
+          c.requires.takes.takes_reading,
+    ))
+
+pub walk-requires : goal.walk-requires
+walk-requires g c =
+    rw (
+      to_z-of_z w64 c.args.reading c.ranges.reading,
+      to_z-of_z w64 c.args.low c.ranges.low,
+      to_z-of_z w64 c.args.high
+          c.ranges.high,
+    )
+    (λ k. (
+      (refl, tt),
+      (
+        c.requires.view,
+        (c.requires.searchable, (c.requires.takes, rw c.in-More.is at c.requires.position)),
+      ),
+    ))
+
+pub returns-in-One : goal.returns-in-One
+returns-in-One g c =
+    let z = zone_of_data c.args.zone in
+    let r = c.args.reading in
+    let s = c.requires.searchable in
+    let t = c.in-One.local_time_type.now in
+    let u = c.shown_at.result in
+    let u_is = to_z-of_z w64 u (search rules) in
+    let at : u ≡ r -ℤ t.ut_offset = rw (to_z-of_z w64 r c.ranges.reading) at c.shown_at.ensures in
+    let types = rw c.in-One.is at c.requires.types in
+    let once = entries_once z s.sound.leap_seconds_are r c.args.low c.args.high t u s.order s.offsets types at in
+    record {
+      ok = on_ok_weaker c.shown.result (λ gains. (Shown u t ∷ [], gains, once, omega arith))
+          (rw u_is at c.shown.ensures.ok);
+      err = IfErr-weaker c.shown.result _ _ (λ e refused. (Shown u t, once.sound 0 (Shown u t) (omega arith), refused))
+          (rw u_is at c.shown.ensures.err);
+      kept = omega arith;
+      at_most = on_ok_weaker c.shown.result (λ gains b w bits most. omega arith) c.shown.ensures.ok;
+      none = on_ok_weaker c.shown.result (λ gains empty. refl) c.shown.ensures.ok;
+    }
+
+pub returns-in-Two : goal.returns-in-Two
+returns-in-Two g c =
+    let z = zone_of_data c.args.zone in
+    let r = c.args.reading in
+    let low = c.args.low in
+    let high = c.args.high in
+    let s = c.requires.searchable in
+    let jump = c.in-Two.unix_time in
+    let reading_is = to_z-of_z w64 r c.ranges.reading in
+    let jump_is = to_z-of_z w64 jump (search rules) in
+    let has : HasTwoTypes z r jump c.in-Two.before.now c.in-Two.after.now = record {
+      leap_seconds_are = s.sound.leap_seconds_are;
+      low = low;
+      high = high;
+      offsets_are = s.offsets;
+      types_are = (rw c.in-Two.is at c.requires.types);
+    } in
+    record {
+      ok = on_ok_weaker c.give_around.result
+          (λ given. (
+            given.0,
+            given.1,
+            given.2 z has,
+            few_entries (IsClock z) low high r s.offsets given.0 s.width
+                (given.2 z has),
+          ))
+          (rw (reading_is, jump_is) at c.give_around.ensures.ok);
+      err = IfErr-weaker c.give_around.result _ _ (λ e refused. (refused.0, refused.2 z has, refused.1))
+          (rw (reading_is, jump_is) at c.give_around.ensures.err);
+      kept = omega arith;
+      at_most = on_ok_weaker c.give_around.result (λ given b w bits most. omega arith) c.give_around.ensures.ok;
+      none = on_ok_weaker c.give_around.result (λ given empty. refl) c.give_around.ensures.ok;
+    }
+
+pub returns-in-More-clause-ok : goal.returns-in-More-clause-ok
+returns-in-More-clause-ok g c = rw (to_z-of_z w64 c.args.reading c.ranges.reading) at c.walk.ensures.ok
+
+pub returns-in-More-clause-at_most : goal.returns-in-More-clause-at_most
+returns-in-More-clause-at_most g c =
+    rw c.in-More.is (rw (
+      to_z-of_z w64 c.args.low c.ranges.low,
+      to_z-of_z w64 c.args.high c.ranges.high,
+    ) at c.walk.ensures.at_most)

@@ -1,0 +1,29 @@
+-- The walk has come to an instant, with a look for each transition that it passed.
+use Rattle.std.proofs.Common.{◌≡◌, ◌+◌, ◌-◌, pos, ◌+ℤ◌, ◌-ℤ◌, ◌≤ℤ◌, List, length}
+use mir.Syntax.{w64}
+use mir.Val.{SFits}
+use Rattle.tz_zone.specs.Clock.{IsClock}
+use Rattle.tz_zone.specs.ClockSpans.{IsStage}
+use Rattle.tz_zone.specs.ZoneOfData.{zone_of_data}
+use Rattle.tz.specs.Entries.{Entry, lent_type}
+use Rattle.tz.proofs.EntryWalks.{IsWalkedTo, room}
+use Rattle.tz.proofs.WalkLooks.{AreLooks}
+use Rattle.tz.proofs.datetime.gaps_and_folds.walk.Given as goal
+
+abbrev pub invariant-loop-since : goal.invariant-loop-since
+invariant-loop-since g l =
+    let list = g.V.Transitions.list in
+    let looks = g.V.Transitions.looks in
+    let z = zone_of_data l.zone in
+    record {
+      same : list l.view ≡ list l.initial.view;
+      fits : SFits w64 l.since;
+      stage : l.since ≤ℤ l.high → IsStage z l.initial.since l.since l.stage;
+      found : (es : List Entry) × g.E.EntryTaker.gains l.initial.entries l.entries es
+          × IsWalkedTo (IsClock z) l.reading l.low (lent_type l.before) l.since es;
+      looks : AreLooks z l.low l.high l.initial.stage.position (looks l.initial.view) (looks l.view) l.stage.position;
+    }
+
+abbrev pub decreases-loop-since : goal.decreases-loop-since
+decreases-loop-since g l = room (l.high +ℤ pos 1 -ℤ l.since)
+    + (length (g.V.Transitions.list l.initial.view) - l.stage.position)

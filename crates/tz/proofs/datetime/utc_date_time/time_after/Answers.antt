@@ -1,0 +1,20 @@
+-- The total that is carried is the one later by the duration.
+use Rattle.std.proofs.Common.{arith}
+use Rattle.std.proofs.lemmas.Int.{ints}
+use Rattle.std.specs.Duration.{as_nanos}
+use Rattle.tz.proofs.TimespecTotals.{timespec_later, range_later, below_a_second}
+use Rattle.tz.proofs.datetime.utc_date_time.time_after.Goals as goal
+
+pub returns : goal.returns
+returns c =
+    let n = as_nanos c.args.duration in
+    let over = c.subsec_nanos.ensures in
+    let small = below_a_second n c.subsec_nanos.result over in
+    record {
+      some = timespec_later c.carried.result _ c.args.seconds c.args.nanoseconds n c.as_secs-added.result
+          c.subsec_nanos.result c.carried.ensures.some c.as_secs-added.ensures over
+          (omega (arith, ints, c.requires.instant.0, c.requires.instant.1));
+      in_range = range_later c.carried.result _ c.args.seconds c.args.nanoseconds n c.as_secs-added.result
+          c.subsec_nanos.result c.carried.ensures.in_range c.as_secs-added.ensures over
+          (omega (arith, ints, c.requires.instant.0, c.requires.instant.1));
+    }

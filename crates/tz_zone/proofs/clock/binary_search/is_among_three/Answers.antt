@@ -1,0 +1,41 @@
+-- What is reached is reached with all before it, and what is ahead with all after it.
+use Rattle.std.proofs.Common.{◌+◌, ◌-◌, ◌≤ℤ◌, ◌<ℤ◌, ℕ, sym, subst, arith, rules}
+use Rattle.std.proofs.lemmas.Int.{ints, to_z-of_z}
+use mir.Syntax.{w64}
+use Rattle.tz_zone.specs.Clock.{AreReached, AreAhead}
+use Rattle.tz_zone.proofs.RisingTimes.{ahead_from, reached_through}
+use Rattle.tz_zone.proofs.clock.binary_search.is_among_three.Goals as goal
+
+pub returns-then-unix_leap_time-clause-among : goal.returns-then-unix_leap_time-clause-among
+returns-then-unix_leap_time-clause-among g c = λ before.
+    let list = g.V.Transitions.list c.args.view.now in
+    let l = c.args.unix_leap_time in
+    let position = c.args.position in
+    let last = c.look.result in
+    let next = c.look-then-unix_leap_time.result in
+    let reached : last.unix_leap_time ≤ℤ l =
+    omega (
+      arith,
+      ints,
+      c.if-unix_leap_time.true,
+      c.unix_leap_time.ensures,
+      to_z-of_z w64 c.unix_leap_time.result
+          (search rules),
+      to_z-of_z w64 l c.ranges.unix_leap_time,
+    ) in
+    let ahead : l <ℤ next.unix_leap_time =
+    omega (
+      arith,
+      ints,
+      before,
+      c.unix_leap_time-then-unix_leap_time.ensures,
+      to_z-of_z w64
+          c.unix_leap_time-then-unix_leap_time.result (search rules),
+      to_z-of_z w64 l c.ranges.unix_leap_time,
+    ) in (
+      omega (arith, c.requires.within),
+      subst (λ (k : ℕ). AreReached list l k) (omega (arith, c.requires.some))
+          (reached_through list c.requires.rising l (position - 1) last c.look.ensures.value reached),
+      subst (λ (k : ℕ). AreAhead list l k) (omega arith) (ahead_from list c.requires.rising l (position + 2) next
+          (rw (sym c.look.ensures.same) c.look-then-unix_leap_time.ensures.value) ahead),
+    )

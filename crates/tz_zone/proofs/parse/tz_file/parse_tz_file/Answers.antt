@@ -1,0 +1,77 @@
+-- What the tables and the rule make is the zone of the file, and what they fail to make is a fault of it.
+use Rattle.std.proofs.Common.{◌≡◌, refl, subst, ap, ◌∙◌, inl, inr}
+use Rattle.std.specs.Prelude.{option_copied}
+use Rattle.std.proofs.lemmas.Result.{IfErr-weaker, err_from_is_err_and}
+use Rattle.tz_zone.specs.Table.{Zone, zone_with}
+use Rattle.tz_zone.specs.ValidZone.{IsFirstZoneFault}
+use Rattle.tz_zone.specs.TzFile.{Part, IsContent, HoldsLeapSeconds, part_of, zone_of_part}
+use Rattle.tz_zone.specs.TzFileFault.{ContentFails, IsReadFault}
+use Rattle.tz_zone.specs.TzParts.{unit_view}
+use Rattle.tz_zone.specs.ZoneRef.{own_zone_of}
+use Rattle.tz_zone.proofs.TzFileLaws.{zone_of_tables, holds_from_tables, tables_from_holds, rule_of_file, made_is_file}
+use Rattle.tz_zone.proofs.parse.tz_file.parse_tz_file.Goals as goal
+
+pub returns-in_err-tables-clause-err : goal.returns-in_err-tables-clause-err
+returns-in_err-tables-clause-err g c =
+    let p = err_from_is_err_and c.from_residual-in_err-tables.result c.from_residual-in_err-tables.ensures.1 in
+    rw (p.1, p.2) (elim (c.in_err-tables.ensures.err) [
+      | inl memory ↦ inl memory
+      | inr fails ↦ inr (inr (inl (
+        c.in_ok-frame.ensures.ok,
+        subst (λ (p : Part). ContentFails p.block p.counts.local_type
+            c.in_err-tables.field-0.0) c.in_ok-frame.ensures.unit fails,
+      )))
+    ])
+
+pub returns-then-not-may_hold-clause-err : goal.returns-then-not-may_hold-clause-err
+returns-then-not-may_hold-clause-err g c =
+    let bytes = c.args.bytes.now in
+    let frame = c.in_ok-frame.frame in
+    let unit = unit_view frame.unit in
+    let same : unit ≡ part_of bytes = c.in_ok-frame.ensures.unit in
+    let rule = c.in_ok-extra_rule.extra_rule in
+    let of_file = rule_of_file bytes unit (option_copied frame.footer) c.is_extended.result rule same
+    c.is_extended.ensures c.in_ok-frame.ensures.footer c.in_ok-extra_rule.ensures.ok in
+    let may_not = rw c.deref.ensures.value at c.if-not-may_hold.ensures in
+    let holds_not = subst (λ (p : Part). ¬ HoldsLeapSeconds p) same
+    (λ holds. may_not (tables_from_holds unit c.in_ok-tables.tables c.in_ok-tables.ensures.value holds)) in
+    inr (inr (inr (inr (
+      c.in_ok-frame.ensures.ok,
+      (subst (λ (p : Part). IsContent p.block p.counts.local_type) same
+          c.in_ok-tables.ensures.ok),
+      rule,
+      of_file,
+      inl (refl, holds_not),
+    ))))
+
+pub returns : goal.returns
+returns g c =
+    let bytes = c.args.bytes.now in
+    let frame = c.in_ok-frame.frame in
+    let unit = unit_view frame.unit in
+    let same : unit ≡ part_of bytes = c.in_ok-frame.ensures.unit in
+    let content : IsContent (part_of bytes).block (part_of bytes).counts.local_type =
+    subst (λ (p : Part). IsContent p.block p.counts.local_type) same c.in_ok-tables.ensures.ok in
+    let rule = c.in_ok-extra_rule.extra_rule in
+    let of_file = rule_of_file bytes unit (option_copied frame.footer) c.is_extended.result rule same
+    c.is_extended.ensures c.in_ok-frame.ensures.footer c.in_ok-extra_rule.ensures.ok in
+    let tables = c.in_ok-tables.tables in
+    let holds = subst HoldsLeapSeconds same (holds_from_tables unit tables c.in_ok-tables.ensures.value
+    (rw c.deref.ensures.value at c.if-not-may_hold.ensures)) in
+    let made : Zone = zone_with tables.transitions.items tables.local_time_types.items tables.leap_seconds.items rule in
+    let zone : made ≡ zone_of_part (part_of bytes) rule = zone_of_tables unit tables rule c.in_ok-tables.ensures.value
+    ∙ ap (λ (p : Part). zone_of_part p rule) same in
+    record {
+      ok = made_is_file bytes rule made own_zone_of c.new.result c.in_ok-frame.ensures.ok content holds of_file zone
+          c.new.ensures.parts c.new.ensures.ok;
+      err = IfErr-weaker c.new.result (IsFirstZoneFault made) (IsReadFault bytes)
+          (λ e fault. inr (inr (inr (inr (
+            c.in_ok-frame.ensures.ok,
+            content,
+            rule,
+            of_file,
+            inr
+                (holds, subst (λ (z : Zone). IsFirstZoneFault z e) zone fault),
+          )))))
+          c.new.ensures.err;
+    }

@@ -1,0 +1,18 @@
+use Rattle.std.proofs.Common.{◌≡◌, length, rules}
+use borrow.Author.Tests.{tests}
+use Rattle.std.proofs.lemmas.Iterator.{YieldsList-from_slice}
+use Rattle.std.proofs.lemmas.Iterator.Consumers.{count_from_yields_List}
+use Rattle.std.proofs.lemmas.Iterator.Search.{YieldsList-from_take_while}
+use Rattle.std.specs.List.{take_while}
+use Rattle.std.specs.Char.{is_ascii_digit}
+use Rattle.tz_zone.proofs.TextRuns.{run_of_split}
+use Rattle.tz_zone.proofs.parse.tz_string.split_digits.Goals as goal
+
+pub returns : goal.returns
+returns c =
+    let text = c.args.text.now in
+    let len : c.count-len.result ≡ length (take_while is_ascii_digit text) =
+    count_from_yields_List c.take_while.result _ c.count-len.ensures.ran
+    (YieldsList-from_take_while _ is_ascii_digit (YieldsList-from_slice text cc) c.take_while.ensures.closure
+    c.take_while.ensures.done (λ x b q k. search (rules, tests))) in
+    run_of_split is_ascii_digit text _ _ c.count-len.result len c.split_at.ensures.front c.split_at.ensures.back

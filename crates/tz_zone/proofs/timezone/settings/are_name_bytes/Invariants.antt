@@ -1,7 +1,0 @@
--- The bytes so far may stand in a name.
-use Rattle.std.proofs.Common.{ℕ, ◌<◌, get_or}
-use Rattle.tz_zone.specs.ZoneNames.{IsZoneNameByte}
-use Rattle.tz_zone.proofs.timezone.settings.are_name_bytes.Given as goal
-
-abbrev pub invariant-loop-byte : goal.invariant-loop-byte
-invariant-loop-byte l = (k : ℕ) (d : ℕ) → k < l.byte-index → IsZoneNameByte (get_or l.part k d)

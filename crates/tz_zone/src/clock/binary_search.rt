@@ -1,0 +1,331 @@
+//! How many transitions are reached at an instant: a guess by the time, which two looks confirm, or
+//! a binary search.
+
+ghost use Rattle.std.specs.Prelude.{◌≡◌, ℕ, ◌+◌, ◌-◌, ◌^◌, ◌<◌, ◌≤◌, ◌⊎◌, length, IsTrue, IfSome};
+ghost use Rattle.std.specs.Prelude.{IfNone, MatchOption};
+ghost use Rattle.tz_zone.specs.Clock.{AreReached, AreAhead, IsLast, IsPositionAt};
+ghost use Rattle.tz_zone.specs.ClockSegments.{IsReachedAt};
+ghost use Rattle.tz_zone.specs.LeapTime.{IsLeapTimeRefused};
+ghost use Rattle.tz_zone.specs.PositionsLeft.{IsAmongPositions};
+ghost use Rattle.tz_zone.specs.Runs.{LiesAt};
+ghost use Rattle.tz_zone.specs.ValidZone.{IsRising};
+ghost use Rattle.tz_zone.specs.ZoneOfData.{zone_of_data};
+
+use crate::leap::leap_time::leap_time;
+use crate::table::{Transition, Transitions, Uncounted};
+use crate::timezone::zone_data::ZoneData;
+
+/// How many positions the last seven looks of a halving choose from.
+const BLOCK: usize = 128;
+
+/// Half a mean Gregorian year, in seconds: clocks with daylight saving time change twice a year.
+const HALF_YEAR: u64 = 15_778_476;
+
+/// The fewest transitions at which a position is guessed: fewer are halved as fast.
+const LEAST_GUESSED: usize = 9;
+
+/// The most transitions at which a position is guessed: more of them are hardly half a year apart.
+const MOST_GUESSED: usize = 1024;
+
+/// The greatest power of two up to a number.
+#[inline(always)]
+fn power_up_to(number: usize) -> usize
+    requires { 0 < number }
+    ensures power { (exponent : ℕ) × (result ≡ 2 ^ exponent) }
+    ensures within { (0 < result) × (result ≤ number) }
+    ensures next { number < result + result }
+{
+    1 << number.ilog2()
+}
+
+/// The later of two positions, if the transition before it is reached at a leap time, or else the
+/// earlier one.
+#[inline(always)]
+fn position_after_look<V: Transitions>(
+    view: &mut V,
+    position: usize,
+    later: usize,
+    unix_leap_time: i64,
+) -> usize
+    requires rising { IsRising (V.list view.old) }
+    requires order { position < later }
+    requires within { later ≤ length (V.list view.old) }
+    ensures same { V.list view.new ≡ V.list view.old }
+    ensures position { ((result ≡ later) × AreReached (V.list view.old) unix_leap_time later)
+        ⊎ ((result ≡ position) × AreAhead (V.list view.old) unix_leap_time (later - 1)) }
+    ensures counted { V.looks view.new ≡ V.next (V.looks view.old) }
+    ensures kept { V.looks view.old ≤ V.looks view.new }
+    ensures at_most { V.looks view.new ≤ V.looks view.old + 1 }
+{
+    if view.look(later - 1).unix_leap_time() <= unix_leap_time {
+        later
+    } else {
+        position
+    }
+}
+
+/// Of twice `count` positions from `position` on, the first of the `count` among which the leap
+/// time's position is, by a look at the transition in the middle.
+#[inline(always)]
+fn half<V: Transitions>(view: &mut V, position: usize, count: usize, unix_leap_time: i64) -> usize
+    requires rising { IsRising (V.list view.old) }
+    requires some { 0 < count }
+    requires among { IsAmongPositions (V.list view.old) unix_leap_time position (count + count) }
+    ensures same { V.list view.new ≡ V.list view.old }
+    ensures rising { IsRising (V.list view.new) }
+    ensures among { IsAmongPositions (V.list view.new) unix_leap_time result count }
+    ensures kept { V.looks view.old ≤ V.looks view.new }
+    ensures at_most { V.looks view.new ≤ V.looks view.old + 1 }
+{
+    // By this read the proof knows that the sum fits.
+    let _len = view.len();
+    position_after_look(view, position, position + count, unix_leap_time)
+}
+
+/// Halves `count` positions from `position` on until `least` of them are left, both powers of two,
+/// and returns the first of these.
+///
+/// A step compares once, and changes `position` by that alone; no step needs a branch of its own.
+#[inline(always)]
+fn halved<V: Transitions>(
+    view: &mut V,
+    position: usize,
+    count: usize,
+    least: usize,
+    unix_leap_time: i64,
+) -> usize
+    requires rising { IsRising (V.list view.old) }
+    requires powers { (e f : ℕ) × (count ≡ 2 ^ e) × (least ≡ 2 ^ f) × (f ≤ e) }
+    requires among { IsAmongPositions (V.list view.old) unix_leap_time position count }
+    ensures same { V.list view.new ≡ V.list view.old }
+    ensures among { IsAmongPositions (V.list view.new) unix_leap_time result least }
+    ensures kept { V.looks view.old ≤ V.looks view.new }
+    ensures at_most { (e f : ℕ) → count ≡ 2 ^ e → least ≡ 2 ^ f → f ≤ e
+        → V.looks view.new + f ≤ V.looks view.old + e }
+{
+    let mut position = position;
+    let mut left = count;
+    while left != least {
+        left /= 2;
+        position = half(view, position, left, unix_leap_time);
+    }
+    position
+}
+
+/// The position of a leap time among 128, by seven looks. Each distance is a constant, so a step
+/// takes five instructions and no branch.
+#[inline(always)]
+fn position_in_block<V: Transitions>(view: &mut V, position: usize, unix_leap_time: i64) -> usize
+    requires rising { IsRising (V.list view.old) }
+    requires among { IsAmongPositions (V.list view.old) unix_leap_time position 128 }
+    ensures same { V.list view.new ≡ V.list view.old }
+    ensures among { IsAmongPositions (V.list view.new) unix_leap_time result 1 }
+    ensures kept { V.looks view.old ≤ V.looks view.new }
+    ensures at_most { V.looks view.new ≤ V.looks view.old + 7 }
+{
+    let among_64 = half(view, position, 64, unix_leap_time);
+    let among_32 = half(view, among_64, 32, unix_leap_time);
+    let among_16 = half(view, among_32, 16, unix_leap_time);
+    let among_8 = half(view, among_16, 8, unix_leap_time);
+    let among_4 = half(view, among_8, 4, unix_leap_time);
+    let among_2 = half(view, among_4, 2, unix_leap_time);
+    half(view, among_2, 1, unix_leap_time)
+}
+
+/// The position at which a leap time before the last transition lies, by halving.
+///
+/// After the first look the number of positions to choose from is a power of two.
+#[inline(always)]
+fn position_by_halving<V: Transitions>(view: &mut V, unix_leap_time: i64) -> usize
+    requires rising { IsRising (V.list view.old) }
+    requires at_least_one { 0 < length (V.list view.old) }
+    requires ahead { AreAhead (V.list view.old) unix_leap_time (length (V.list view.old) - 1) }
+    ensures same { V.list view.new ≡ V.list view.old }
+    ensures within { result < length (V.list view.old) }
+    ensures at { IsPositionAt (V.list view.old) unix_leap_time result }
+    ensures kept { V.looks view.old ≤ V.looks view.new }
+    ensures at_most { (b : ℕ) → length (V.list view.old) < 2 ^ b
+        → V.looks view.new ≤ V.looks view.old + b }
+{
+    let count = view.len();
+    if count == 1 {
+        return 0;
+    }
+    let power = power_up_to(count - 1);
+    let first = position_after_look(view, 0, count - power, unix_leap_time);
+    if power < BLOCK {
+        return halved(view, first, power, 1, unix_leap_time);
+    }
+    let block = halved(view, first, power, BLOCK, unix_leap_time);
+    position_in_block(view, block, unix_leap_time)
+}
+
+/// The first of three positions, at one of which a leap time before the last transition lies if two
+/// transitions come in each year.
+#[inline(always)]
+fn first_by_time<V: Transitions>(view: &mut V, unix_leap_time: i64) -> usize
+    requires uncounted { (n : ℕ) → V.next n ≡ n }
+    requires some { LEAST_GUESSED ≤ length (V.list view.old) }
+    ensures same { V.list view.new ≡ V.list view.old }
+    ensures looks { V.looks view.new ≡ V.looks view.old }
+    ensures some { 0 < result }
+    ensures within { result + 2 < length (V.list view.old) }
+{
+    let count = view.len();
+    let left = view
+        .look(count - 1)
+        .unix_leap_time()
+        .abs_diff(unix_leap_time);
+    let half_years = (left / HALF_YEAR).min((count - 3) as u64).max(1);
+    count - 2 - half_years as usize
+}
+
+/// Whether a leap time lies at one of three positions, by the transitions on either side of them.
+#[inline(always)]
+fn is_among_three<V: Transitions>(view: &mut V, position: usize, unix_leap_time: i64) -> bool
+    requires rising { IsRising (V.list view.old) }
+    requires uncounted { (n : ℕ) → V.next n ≡ n }
+    requires some { 0 < position }
+    requires within { position + 2 < length (V.list view.old) }
+    ensures same { V.list view.new ≡ V.list view.old }
+    ensures looks { V.looks view.new ≡ V.looks view.old }
+    ensures among { IsTrue result → IsAmongPositions (V.list view.old) unix_leap_time position 3 }
+{
+    // By this read the proof knows that the sum fits.
+    let _len = view.len();
+    view.look(position - 1).unix_leap_time() <= unix_leap_time
+        && unix_leap_time < view.look(position + 2).unix_leap_time()
+}
+
+/// The position of a leap time among three.
+#[inline(always)]
+fn position_among_three<V: Transitions>(view: &mut V, position: usize, unix_leap_time: i64) -> usize
+    requires rising { IsRising (V.list view.old) }
+    requires uncounted { (n : ℕ) → V.next n ≡ n }
+    requires among { IsAmongPositions (V.list view.old) unix_leap_time position 3 }
+    ensures same { V.list view.new ≡ V.list view.old }
+    ensures looks { V.looks view.new ≡ V.looks view.old }
+    ensures within { result < length (V.list view.old) }
+    ensures at { IsPositionAt (V.list view.old) unix_leap_time result }
+{
+    // By this read the proof knows that the sums fit.
+    let _len = view.len();
+    let next = position_after_look(view, position, position + 1, unix_leap_time);
+    position_after_look(view, next, position + 2, unix_leap_time)
+}
+
+/// The position of a leap time before the last transition, if it is one of the three positions by
+/// time.
+#[inline(always)]
+fn guessed<V: Transitions>(view: &mut V, unix_leap_time: i64) -> Option<usize>
+    requires rising { IsRising (V.list view.old) }
+    requires uncounted { (n : ℕ) → V.next n ≡ n }
+    requires some { LEAST_GUESSED ≤ length (V.list view.old) }
+    ensures same { V.list view.new ≡ V.list view.old }
+    ensures looks { V.looks view.new ≡ V.looks view.old }
+    ensures within { IfSome result (λ position. position < length (V.list view.old)) }
+    ensures at { IfSome result
+        (λ position. IsPositionAt (V.list view.old) unix_leap_time position) }
+{
+    let first = first_by_time(view, unix_leap_time);
+    if is_among_three(view, first, unix_leap_time) {
+        Some(position_among_three(view, first, unix_leap_time))
+    } else {
+        None
+    }
+}
+
+/// The position at which a leap time before the last transition lies: by a guess, or else by
+/// halving.
+///
+/// A guess may take looks in vain, so there is none if looks are counted. It decides nothing by
+/// itself: it is taken only if the transitions around it show that it is right.
+#[inline(always)]
+fn position_before<V: Transitions>(view: &mut V, unix_leap_time: i64) -> usize
+    requires rising { IsRising (V.list view.old) }
+    requires at_least_one { 0 < length (V.list view.old) }
+    requires ahead { AreAhead (V.list view.old) unix_leap_time (length (V.list view.old) - 1) }
+    ensures same { V.list view.new ≡ V.list view.old }
+    ensures within { result < length (V.list view.old) }
+    ensures at { IsPositionAt (V.list view.old) unix_leap_time result }
+    ensures kept { V.looks view.old ≤ V.looks view.new }
+    ensures at_most { (b : ℕ) → length (V.list view.old) < 2 ^ b
+        → V.looks view.new ≤ V.looks view.old + b }
+{
+    let count = view.len();
+    if count >= LEAST_GUESSED && count <= MOST_GUESSED && !view.is_counted() {
+        if let Some(position) = guessed(view, unix_leap_time) {
+            return position;
+        }
+    }
+    position_by_halving(view, unix_leap_time)
+}
+
+/// The position at which a leap time lies. If the last transition is reached, no other one is
+/// looked at.
+#[inline(always)]
+pub(super) fn position_of<V: Transitions>(
+    view: &mut V,
+    last: Transition,
+    unix_leap_time: i64,
+) -> usize
+    requires rising { IsRising (V.list view.old) }
+    requires last { IsLast (V.list view.old) last }
+    requires at_least_one { 0 < length (V.list view.old) }
+    ensures same { V.list view.new ≡ V.list view.old }
+    ensures within { result ≤ length (V.list view.old) }
+    ensures at { IsPositionAt (V.list view.old) unix_leap_time result }
+    ensures kept { V.looks view.old ≤ V.looks view.new }
+    ensures at_most { (b : ℕ) → length (V.list view.old) < 2 ^ b
+        → V.looks view.new ≤ V.looks view.old + b }
+{
+    if last.unix_leap_time() <= unix_leap_time {
+        return view.len();
+    }
+    position_before(view, unix_leap_time)
+}
+
+/// The position at which an instant lies: how many transitions are reached. There is none if the
+/// instant has no leap time.
+///
+/// The last transition is looked at first: if it is reached, no other one is looked at.
+#[inline(always)]
+pub(super) fn position_at<V: Transitions>(
+    view: &mut V,
+    zone: &ZoneData<'_>,
+    unix_time: i64,
+) -> Option<usize>
+    requires view { V.list view.old ≡ (zone_of_data zone.now).transitions }
+    requires at_least_one { 0 < length (V.list view.old) }
+    ensures same { V.list view.new ≡ V.list view.old }
+    ensures position { MatchOption result
+        (IsLeapTimeRefused (zone_of_data zone.now).leap_seconds unix_time)
+        (λ position. (position ≤ length (V.list view.old))
+        × IsReachedAt (zone_of_data zone.now) unix_time position) }
+    ensures at_least_one { V.next (V.looks view.old) ≤ V.looks view.new }
+    ensures at_most { (b : ℕ) → length (V.list view.old) < 2 ^ b
+        → V.looks view.new ≤ V.looks view.old + (b + 1) }
+    ensures none { IfNone result (V.looks view.new ≤ V.looks view.old + 1) }
+{
+    let count = view.len();
+    let last = view.look(count - 1);
+    let Some(unix_leap_time) = leap_time(zone.leap_seconds, unix_time) else {
+        return None;
+    };
+    Some(position_of(view, last, unix_leap_time))
+}
+
+/// The position at which an instant lies in a zone that has transitions, if it has a leap time.
+/// Looks are not counted here, so none is taken before the leap time is known.
+#[inline(always)]
+pub(super) fn position_in(zone: &ZoneData<'_>, unix_time: i64) -> Option<usize>
+    requires { 0 < length (zone_of_data zone.now).transitions }
+    ensures { MatchOption result
+        (IsLeapTimeRefused (zone_of_data zone.now).leap_seconds unix_time)
+        (λ position. LiesAt (zone_of_data zone.now) unix_time position) }
+{
+    let transitions = zone.transitions;
+    let unix_leap_time = leap_time(zone.leap_seconds, unix_time)?;
+    let last = transitions[transitions.len() - 1];
+    Some(position_of(&mut Uncounted::new(transitions), last, unix_leap_time))
+}

@@ -1,0 +1,64 @@
+//! The table of a zone: transitions, and a view that reads them one at a time.
+
+ghost use Rattle.std.specs.Prelude.{◌≡◌};
+
+mod transition_view;
+
+use std::marker::Model;
+pub use transition_view::{Counted, Transitions, Uncounted};
+
+/// A leap time from which on a local time type holds.
+#[repr(C)]
+#[derive(Clone, Copy, Debug, PartialEq, Eq)]
+pub struct Transition {
+    unix_leap_time: i64,
+    local_time_type_index: usize,
+}
+
+impl Model for Transition {
+    ghost use Rattle.tz_zone.specs.Table.{Transition};
+
+    ghost Value = { Transition };
+
+    ghost view = { λ t. record {
+      unix_leap_time = t.unix_leap_time;
+      type_index =
+          t.local_time_type_index;
+    } };
+
+    ghost inverse = { λ t. record {
+      unix_leap_time = t.unix_leap_time;
+      local_time_type_index =
+          t.type_index;
+    } };
+}
+
+impl Transition {
+    /// The transition at this leap time to the type with this number.
+    pub fn new(unix_leap_time: i64, local_time_type_index: usize) -> Self
+        ensures { result ≡ record {
+          unix_leap_time = unix_leap_time;
+          type_index =
+              local_time_type_index;
+        } }
+    {
+        Transition {
+            unix_leap_time,
+            local_time_type_index,
+        }
+    }
+
+    /// The leap time: Unix time with the leap seconds so far counted in.
+    pub fn unix_leap_time(&self) -> i64
+        ensures { result ≡ self.now.unix_leap_time }
+    {
+        self.unix_leap_time
+    }
+
+    /// The number of the type in the zone's list.
+    pub fn local_time_type_index(&self) -> usize
+        ensures { result ≡ self.now.type_index }
+    {
+        self.local_time_type_index
+    }
+}
