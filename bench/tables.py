@@ -69,20 +69,28 @@ class Reasons:
                          if letter in self.given)
 
 
+def over_best(row, program):
+    """A program's figure over the least of the peers."""
+    return f'{row[program] / best_of(row):.2f}' if program in row else '–'
+
+
 def of_instructions(section, kept, through, peers, reasons):
-    """Instructions of tz, of tz through its bindings, and of the peers, and tz's over the least of
-    these, in the rows that a peer has. A figure has a star where answers differ."""
+    """Instructions of tz, of tz through its bindings, and of the peers, and those of tz and of the
+    Rust crate over the least of the peers, in the rows that a peer has. A figure has a star where
+    answers differ."""
     lines = []
+    compared = [program for program in OWN if program in ('tz', *through)]
     for name, row in kept.rows(section).items():
-        best = best_of(row)
-        if best is None:
+        if best_of(row) is None:
             continue
-        ratio = f'{row["tz"] / best:.2f}{reasons.of(name, row)}' if 'tz' in row else '–'
+        ratios = [over_best(row, program) for program in compared]
+        ratios[0] += reasons.of(name, row)
         differing = kept.rows(f'differing {section}').get(rows.search_of(name), {})
         cells = [f'{row[peer]}{STAR * (peer in differing)}' if peer in row else '–' for peer in (*through, *peers)]
-        lines.append([name, row.get('tz', '–'), *cells, ratio])
+        lines.append([name, row.get('tz', '–'), *cells, *ratios])
     names = [name.replace('-', ' ') for name in through]
-    return table(['row', 'tz', *names, *peers, 'tz / best'], lines)
+    heads = [f'{program.removeprefix("through-")} / best' for program in compared]
+    return table(['row', 'tz', *names, *peers, *heads], lines)
 
 
 def of_own(kept):
@@ -106,23 +114,22 @@ def multiple(figure):
 
 
 def of_times(kept, reasons):
-    """Nanoseconds of tz and of the Rust crate, of each peer how many times as many as the better of
-    both, and that over the least of the peers."""
+    """Nanoseconds of the proved build in lines and of the Rust crate in calls, of each peer how many
+    times as many, and the first over the least of the peers."""
     lines = []
-    for section in ('times of lines', 'times of calls'):
+    for section, program in zip(('times of lines', 'times of calls'), OWN):
         for name, row in kept.rows(section).items():
-            own = [row[program] for program in OWN if program in row]
-            if not own or best_of(row) is None:
+            if program not in row or best_of(row) is None:
                 continue
-            least = min(own)
+            own = row[program]
             differing = kept.rows(f'differing {section}').get(name, {})
-            cells = [f'{row[program]:.1f}' if program in row else '–' for program in OWN]
+            cells = [f'{own:.1f}']
             for peer in PEERS:
                 star = STAR * (peer in differing)
-                cells.append(f'{multiple(row[peer] / least)}{star}' if peer in row else '–')
-            letters = reasons.of(f'time of {name}', {**row, 'tz': least})
-            lines.append([name, *cells, f'{least / best_of(row):.2f}{letters}'])
-    return table(['row', 'tz, ns', 'through Rust, ns', *PEERS, 'tz / best'], lines)
+                cells.append(f'{multiple(row[peer] / own)}{star}' if peer in row else '–')
+            letters = reasons.of(f'time of {name}', {**row, 'tz': own})
+            lines.append([name, *cells, f'{over_best(row, program)}{letters}'])
+    return table(['row', 'tz, ns', *PEERS, 'tz / best'], lines)
 
 
 def days_of(names, kept):
