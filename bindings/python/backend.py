@@ -14,7 +14,8 @@ from pathlib import Path
 
 HERE = Path(__file__).resolve().parent
 TOP = HERE.parent.parent
-NAME, VERSION = "tz_python", "0.7.3"
+HEADER = (TOP / "bindings" / "c" / "tz.h").read_text("utf-8")
+NAME, VERSION = "tz_python", re.search('#define TZ_VERSION "(.*)"', HEADER)[1]
 INFO = f"{NAME}-{VERSION}.dist-info"
 TAG = "py3-none-" + re.sub("[-.]", "_", sysconfig.get_platform())
 CARGO = "cargo build --release --offline --package tz-c --message-format json-render-diagnostics"

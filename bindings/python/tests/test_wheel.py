@@ -9,7 +9,10 @@ import sys
 import tempfile
 import unittest
 import zipfile
+from importlib import metadata
 from pathlib import Path
+
+import tz
 
 HERE = Path(__file__).resolve().parent.parent
 SPEC = importlib.util.spec_from_file_location("backend", HERE / "backend.py")
@@ -40,6 +43,10 @@ class Wheel(unittest.TestCase):
         for file, (digest, length) in recorded.items():
             sha256 = base64.urlsafe_b64encode(hashlib.sha256(files[file]).digest()).rstrip(b"=")
             self.assertEqual((digest, length), ("sha256=" + sha256.decode(), str(len(files[file]))))
+
+    def test_version(self):
+        self.assertEqual(tz.__version__, backend.VERSION)
+        self.assertEqual(tz.__version__, metadata.version("tz-python"))
 
     def test_metadata(self):
         with tempfile.TemporaryDirectory() as room:

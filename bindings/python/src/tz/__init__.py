@@ -20,6 +20,9 @@ from zoneinfo import InvalidTZPathWarning, ZoneInfoNotFoundError, reset_tzpath
 from ._library import LocalTime, TzError, built_in_names, built_in_version, error_text
 from ._zone import ZoneInfo
 
+# The release, as TZ_VERSION of tz.h.
+__version__ = "2.0.0"
+
 __all__ = [
     "ZoneInfo",
     "LocalTime",
