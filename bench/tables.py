@@ -230,20 +230,21 @@ def lines_of(files):
 
 
 def of_sizes():
-    """The lines of each crate, and its must-fail edits; those of the tests together."""
-    crates = {}
+    """The lines of the crates together, and their must-fail edits; those of code that only tests."""
+    shipped, tests, count = [0] * 4, 0, 0
     for line in (TOP / 'crates.txt').read_text().splitlines():
         if not line.startswith('#'):
             name = line.split(':')[0].split()[0]
             crate = TOP / 'crates' / name
             sizes = [lines_of(crate.glob(found)) for found in ('src/**/*.rt', 'specs/**/*.antt', 'proofs/**/*.antt')]
             sizes.append(len(list(crate.glob('must-fail/*.edit'))))
-            if name.endswith(('_tests', '_samples', '_examples')):
-                shown = 'tests'
+            if name.endswith(('_tests', '_samples', '_examples')) or name in ('tz_calls', 'tz_changes'):
+                tests += sizes[0]
             else:
-                shown = 'programs that count and compare' if name in ('tz_calls', 'tz_changes') else f'`{name}`'
-            crates[shown] = [more + had for more, had in zip(sizes, crates.get(shown, [0] * 4))]
-    return table(['crate', 'code', 'definitions', 'proofs', 'edits'], [[name, *sizes] for name, sizes in crates.items()])
+                shipped, count = [more + had for more, had in zip(sizes, shipped)], count + 1
+    code, definitions, proofs, edits = shipped
+    return filled(f'{WORDS[count].capitalize()} crates have {code} lines of code, {definitions} of definitions and {proofs} of proofs, and {edits} '
+                  f'must-fail edits; tests, examples and programs that measure have {tests} lines.')
 
 
 def picture(title, kept, section):
