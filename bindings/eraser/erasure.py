@@ -111,7 +111,7 @@ EXACT = {
         ("(super::TimeZone::named)", "(crate::timezone::TimeZone::named)"),
     ),
     # Rust 1.85 has no condition with a pattern beside others, and no method for this cast.
-    "crates/tz_query/src/query/lines.rt": (
+    "crates/tz_query/src/query/read_query.rt": (
         (
             "bytes.len() >= 3\n        && let Some((number, end)) = read_small(bytes, 0)\n    {\n"
             "        return Some((i64::from(number), &bytes[end..]));\n    }",

@@ -24,14 +24,14 @@ use Rattle.tz.specs.Found.{Clock, EachCanBeMade, IsFound, Shows}
 use Rattle.tz.specs.LocalMeanings.{HasMeaning, meaning_of}
 use Rattle.tz.specs.Meanings.{IsMeaning, IsMeaningFault, IsMeantIn, instant_meant, entry_meant as found_meant}
 use Rattle.tz.specs.Meanings.{first_shown as first_found_shown, last_entry as last_found}
-use Rattle.tz.specs.declared.datetime.meaning.Disambiguation.{Disambiguation}
-use Rattle.tz.specs.declared.datetime.meaning.Disambiguation.TheVariants.{Compatible, Earlier, Later, Reject}
+use Rattle.tz.specs.declared.datetime.disambiguation.Disambiguation.{Disambiguation}
+use Rattle.tz.specs.declared.datetime.disambiguation.Disambiguation.TheVariants.{Compatible, Earlier, Later, Reject}
 use Rattle.tz.specs.declared.datetime.ends.Ends.{Ends}
 use Rattle.tz.specs.declared.datetime.ends.Entry.{Entry as LentEntry}
 use Rattle.tz.specs.declared.datetime.ends.Entry.TheVariants as lent
 use Rattle.tz.specs.declared.datetime.found.FoundDateTimeKind.{FoundDateTimeKind}
 use Rattle.tz.specs.declared.datetime.found.FoundDateTimeKind.TheVariants.{Normal, Skipped}
-use Rattle.tz.specs.declared.datetime.meaning.Meaning.TheVariants.{Nothing, Once, Twice, Skipped as Gap, More}
+use Rattle.tz.specs.declared.datetime.disambiguation.Meaning.TheVariants.{Nothing, Once, Twice, Skipped as Gap, More}
 use Rattle.tz.proofs.DatedEntries.{fault_from_refused, found_from_entries, made_from_entries, side_exists, side_unique}
 
 -- the ends take entries of any reading

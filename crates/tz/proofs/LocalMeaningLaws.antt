@@ -9,12 +9,12 @@ use Rattle.tz.specs.DateTimes.{DateTime, ShowsByClock}
 use Rattle.tz.specs.Found.{IsFound}
 use Rattle.tz.specs.LocalMeanings.{ChoicesAgree, HasMeaning, meaning_of}
 use Rattle.tz.specs.Meanings.{entry_meant, first_shown, instant_meant, last_entry, only_shown, IsMeaning, IsMeantIn}
-use Rattle.tz.specs.declared.datetime.meaning.Disambiguation.{Disambiguation}
-use Rattle.tz.specs.declared.datetime.meaning.Disambiguation.TheVariants.{Compatible, Earlier, Later, Reject}
+use Rattle.tz.specs.declared.datetime.disambiguation.Disambiguation.{Disambiguation}
+use Rattle.tz.specs.declared.datetime.disambiguation.Disambiguation.TheVariants.{Compatible, Earlier, Later, Reject}
 use Rattle.tz.specs.declared.datetime.found.FoundDateTimeKind.{FoundDateTimeKind}
 use Rattle.tz.specs.declared.datetime.found.FoundDateTimeKind.TheVariants.{Normal, Skipped}
-use Rattle.tz.specs.declared.datetime.meaning.Meaning.{Meaning}
-use Rattle.tz.specs.declared.datetime.meaning.Meaning.TheVariants.{Nothing, Once, Twice, Skipped as Gap, More}
+use Rattle.tz.specs.declared.datetime.disambiguation.Meaning.{Meaning}
+use Rattle.tz.specs.declared.datetime.disambiguation.Meaning.TheVariants.{Nothing, Once, Twice, Skipped as Gap, More}
 use Rattle.tz.proofs.UniqueLists.{found_unique}
 use Rattle.tz.proofs.UniqueMeanings.{meaning_unique}
 

@@ -11,7 +11,7 @@ use Rattle.tz_zone.specs.Table.{Zone}
 use Rattle.tz.specs.DateTimes.{DateTime}
 use Rattle.tz.specs.Found.{EachCanBeMade}
 use Rattle.tz.specs.Meanings.{entry_meant, instant_meant, IsMeantFault, IsMeantIn, IsMeaning, IsMeaningFault}
-use Rattle.tz.specs.declared.datetime.meaning.Disambiguation.{Disambiguation}
+use Rattle.tz.specs.declared.datetime.disambiguation.Disambiguation.{Disambiguation}
 use Rattle.tz.specs.declared.datetime.found.FoundDateTimeKind.{FoundDateTimeKind}
 use Rattle.tz.specs.declared.datetime.found.FoundDateTimeKind.TheVariants.{Normal, Skipped}
 use Rattle.tz.proofs.UniqueLists.{found_unique}

@@ -14,10 +14,10 @@ use Rattle.tz.specs.Entries.{Entry, Shown, Jump, AreEntries, HasTwoTypes, IsEntr
 use Rattle.tz.specs.Entries.{IsEntryInside, IsEntryOutside}
 use Rattle.tz.specs.Found.{Clock}
 use Rattle.tz.specs.Growth.{HoldsMore, holds_more, holds_none}
-use Rattle.tz.specs.declared.datetime.meaning.Disambiguation.{Disambiguation}
-use Rattle.tz.specs.declared.datetime.meaning.Disambiguation.TheVariants.{Compatible}
-use Rattle.tz.specs.declared.datetime.meaning.Disambiguation.TheVariants.{Earlier, Later}
-use Rattle.tz.specs.declared.datetime.meaning.Disambiguation.TheVariants.{Reject}
+use Rattle.tz.specs.declared.datetime.disambiguation.Disambiguation.{Disambiguation}
+use Rattle.tz.specs.declared.datetime.disambiguation.Disambiguation.TheVariants.{Compatible}
+use Rattle.tz.specs.declared.datetime.disambiguation.Disambiguation.TheVariants.{Earlier, Later}
+use Rattle.tz.specs.declared.datetime.disambiguation.Disambiguation.TheVariants.{Reject}
 use Rattle.tz.specs.declared.datetime.ends.Ends.{Ends}
 use Rattle.tz.specs.declared.datetime.ends.FewEntries.{FewEntries}
 use Rattle.tz.specs.declared.datetime.ends.FewEntries.TheVariants.{Nothing, Once, Twice, Skipped}

@@ -8,12 +8,12 @@ use Rattle.tz_zone.specs.Table.{Zone}
 use Rattle.tz.specs.DateTimes.{DateTime, ShowsByClock}
 use Rattle.tz.specs.Found.{IsFound}
 use Rattle.tz.specs.Meanings.{instant_meant, IsMeaning}
-use Rattle.tz.specs.declared.datetime.meaning.Disambiguation.{Disambiguation}
-use Rattle.tz.specs.declared.datetime.meaning.Disambiguation.TheVariants.{Compatible, Earlier, Later, Reject}
+use Rattle.tz.specs.declared.datetime.disambiguation.Disambiguation.{Disambiguation}
+use Rattle.tz.specs.declared.datetime.disambiguation.Disambiguation.TheVariants.{Compatible, Earlier, Later, Reject}
 use Rattle.tz.specs.declared.datetime.found.FoundDateTimeKind.{FoundDateTimeKind}
 use Rattle.tz.specs.declared.datetime.found.FoundDateTimeKind.TheVariants.{Normal, Skipped}
-use Rattle.tz.specs.declared.datetime.meaning.Meaning.{Meaning}
-use Rattle.tz.specs.declared.datetime.meaning.Meaning.TheVariants.{Nothing, Once, Twice, Skipped as Gap, More}
+use Rattle.tz.specs.declared.datetime.disambiguation.Meaning.{Meaning}
+use Rattle.tz.specs.declared.datetime.disambiguation.Meaning.TheVariants.{Nothing, Once, Twice, Skipped as Gap, More}
 
 -- by the number of entries and their kinds
 abbrev pub meaning_of : List FoundDateTimeKind → Meaning

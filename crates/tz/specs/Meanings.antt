@@ -10,8 +10,8 @@ use Rattle.tz_zone.specs.Table.{Zone}
 use Rattle.tz.specs.DateTimes.{DateTime, ShowsByClock, IsClockFault}
 use Rattle.tz.specs.FindFaults.{IsFindFault}
 use Rattle.tz.specs.Found.{EachCanBeMade, IsFound}
-use Rattle.tz.specs.declared.datetime.meaning.Disambiguation.{Disambiguation}
-use Rattle.tz.specs.declared.datetime.meaning.Disambiguation.TheVariants.{Compatible, Earlier, Later, Reject}
+use Rattle.tz.specs.declared.datetime.disambiguation.Disambiguation.{Disambiguation}
+use Rattle.tz.specs.declared.datetime.disambiguation.Disambiguation.TheVariants.{Compatible, Earlier, Later, Reject}
 use Rattle.tz.specs.declared.datetime.found.FoundDateTimeKind.{FoundDateTimeKind}
 use Rattle.tz.specs.declared.datetime.found.FoundDateTimeKind.TheVariants.{Normal, Skipped}
 

@@ -20,7 +20,7 @@ use Rattle.tz.specs.DateTimes.{DateTime, IsClockFault, ShowsByClock}
 use Rattle.tz.specs.Meanings.{IsMeaning, IsMeaningFault, instant_meant}
 use Rattle.tz.specs.Plain.{date_time_data, date_time_of}
 use Rattle.tz.specs.declared.datetime.date_time.DateTimeData.{DateTimeData}
-use Rattle.tz.specs.declared.datetime.meaning.Disambiguation.{Disambiguation}
+use Rattle.tz.specs.declared.datetime.disambiguation.Disambiguation.{Disambiguation}
 use Rattle.tz.specs.declared.datetime.found.FoundDateTimeKind.TheVariants.{Normal, Skipped}
 use Rattle.tz.proofs.UniqueMeanings.{meaning_fault_unique, meaning_or_fault, meaning_unique}
 use Rattle.tz.proofs.UniqueResults.{clock_fault_unique, no_fault_where_shown, shown_unique}

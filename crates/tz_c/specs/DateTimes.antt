@@ -12,8 +12,8 @@ use Rattle.tz.specs.DateTimes.{DateTime, IsDateTime, IsUtcTotal}
 use Rattle.tz.specs.Found.{EachCanBeMade}
 use Rattle.tz.specs.Meanings.{IsMeaning, IsMeaningFault}
 use Rattle.tz.specs.Plain.{IsUtcData, date_time_of}
-use Rattle.tz.specs.declared.datetime.meaning.Disambiguation.{Disambiguation}
-use Rattle.tz.specs.declared.datetime.meaning.Disambiguation.TheVariants.{Compatible, Earlier, Later, Reject}
+use Rattle.tz.specs.declared.datetime.disambiguation.Disambiguation.{Disambiguation}
+use Rattle.tz.specs.declared.datetime.disambiguation.Disambiguation.TheVariants.{Compatible, Earlier, Later, Reject}
 use Rattle.tz.specs.declared.datetime.date_time.UtcData.{UtcData}
 use Rattle.tz.specs.declared.datetime.date_time.DateTimeData.{DateTimeData}
 use Rattle.tz_c.specs.Codes.{code_of, no_date_time, unknown_choice}

@@ -5,7 +5,7 @@ ghost use Rattle.tz_base.specs.Fields.{IsCivil, IsReading};
 ghost use Rattle.tz.specs.DateTimes.{IsClockFault, ShowsByClock};
 ghost use Rattle.tz_zone.specs.Changes.{IsTrueSegment, segment_of};
 ghost use Rattle.tz_zone.specs.Clock.{IsClock, IsLookupFault};
-ghost use Rattle.tz.specs.declared.datetime.meaning.Disambiguation.{Disambiguation};
+ghost use Rattle.tz.specs.declared.datetime.disambiguation.Disambiguation.{Disambiguation};
 ghost use Rattle.tz_c.specs.Codes.{IsAnswer, IsAnswerOr, buffer_length};
 ghost use Rattle.tz_c.specs.Columns.{AreAnswers, AreInstantsBy, AreOfLength, IsDateTimeAt, IsDay, IsInDay, IsInstantAnswer, IsInstantAt, IsOffset, IsOffsetAt};
 ghost use Rattle.tz_c.specs.DateTimes.{IsDateTimeDataOf, choice_of};

@@ -8,8 +8,8 @@ use Rattle.tz_query.specs.Answers.{IsQueryAnswer, IsTimeAnswer}
 use Rattle.tz_query.specs.Lines.{ended, line_feed}
 use Rattle.tz_query.specs.Outputs.{Adds, IsAnswered, Leaves, written}
 use Rattle.tz_query.specs.Pages.{EndsLine}
-use Rattle.tz_query.specs.declared.query.lines.Query.{Query}
-use Rattle.tz_query.specs.declared.query.lines.Query.TheVariants.{Time}
+use Rattle.tz_query.specs.declared.query.read_query.Query.{Query}
+use Rattle.tz_query.specs.declared.query.read_query.Query.TheVariants.{Time}
 use Rattle.tz_query.specs.declared.query.output.Output.{Output}
 use Rattle.tz_query.specs.declared.query.answers.Suffixes.{Suffixes}
 use Rattle.tz_query.specs.declared.query.answers.Answers.{Answers}

@@ -24,7 +24,7 @@ use Rattle.tz.specs.declared.datetime.found.FoundDateTimeKind.{FoundDateTimeKind
 use Rattle.tz.specs.declared.datetime.found.FoundDateTimeKind.TheVariants.{Normal, Skipped}
 use Rattle.tz_query.specs.Lines.{line_feed, IsLine}
 use Rattle.tz_query.specs.Numbers.{hyphen, space}
-use Rattle.tz_query.specs.declared.query.lines.Query.TheVariants.{Time, Search, Meeting}
+use Rattle.tz_query.specs.declared.query.read_query.Query.TheVariants.{Time, Search, Meeting}
 use Rattle.tz_query.specs.Answers.{field_fault_text, IsFaultText, entry_text, IsTimeAnswer, IsSearchAnswer, IsWeekAnswer, AreWeekAnswers, IsAnswer, IsSingle}
 
 -- digits

@@ -22,8 +22,8 @@ use Rattle.tz_query.specs.Answers.{found_lines, IsSearchAnswer}
 use Rattle.tz_query.specs.Nanoseconds.{HasNanoseconds, number_of, with_nanoseconds}
 use Rattle.tz_query.specs.Outputs.{Adds, IsAnswered}
 use Rattle.tz_query.specs.declared.query.answers.Answers.{Answers}
-use Rattle.tz_query.specs.declared.query.lines.Query.TheVariants.{Search}
-use Rattle.tz_query.specs.declared.query.lines.Nanoseconds.{Nanoseconds}
+use Rattle.tz_query.specs.declared.query.read_query.Query.TheVariants.{Search}
+use Rattle.tz_query.specs.declared.query.read_query.Nanoseconds.{Nanoseconds}
 use Rattle.tz_query.proofs.AddedText.{with_text}
 use Rattle.tz_query.specs.Lines.{ended}
 use Rattle.tz_query.proofs.OtherNanoseconds.{same_fields, valid_with}

@@ -10,8 +10,8 @@ use Rattle.std.proofs.Math.Seq.{drop-append_seam}
 use Rattle.std.proofs.lemmas.List.{drop_more, length-append, take-append-drop}
 use Rattle.std.proofs.lemmas.List.Elements.{All-nil, All-cons, All-append, All-tail, All-from_recursion}
 use Rattle.tz_base.specs.declared.fields.Fields.{Fields}
-use Rattle.tz_query.specs.declared.query.lines.Query.{Query}
-use Rattle.tz_query.specs.declared.query.lines.Query.TheVariants.{Time, Search, Meeting}
+use Rattle.tz_query.specs.declared.query.read_query.Query.{Query}
+use Rattle.tz_query.specs.declared.query.read_query.Query.TheVariants.{Time, Search, Meeting}
 use Rattle.tz_query.specs.Lines.{line_feed, IsLine, IsLineEnd, IsFirstLine}
 use Rattle.tz.specs.DateTimeText.{EndsDigits}
 use Rattle.tz_query.specs.Numbers.{hyphen, space, IsNumber, AreNumbers, IsPartFront, ArePartsFront}

@@ -22,8 +22,8 @@ use Rattle.tz.proofs.UniqueLists.{found_unique}
 use Rattle.tz.proofs.UniqueResults.{clock_fault_unique, first_fault_unique, no_fault_where_made, no_fault_where_shown, search_fault_unique, shown_unique}
 use Rattle.tz_query.specs.Lines.{line_feed, IsLine, IsCut, AreLines, ended}
 use Rattle.tz_query.specs.Numbers.{AreNumbers}
-use Rattle.tz_query.specs.declared.query.lines.Query.{Query}
-use Rattle.tz_query.specs.declared.query.lines.Query.TheVariants.{Time, Search, Meeting}
+use Rattle.tz_query.specs.declared.query.read_query.Query.{Query}
+use Rattle.tz_query.specs.declared.query.read_query.Query.TheVariants.{Time, Search, Meeting}
 use Rattle.tz_query.specs.Queries.{time_letter, search_letter, meeting_letter, IsLineOf, IsQueryLine, numbers_of}
 use Rattle.tz_query.specs.MeetingDates.{IsWeekOf, day_after, midnight}
 use Rattle.tz_query.specs.Answers.{entry_text, field_fault_text, found_lines, meeting_lines, IsFaultText, IsTimeAnswer, IsSearchAnswer, IsWeekAnswer, AreWeekAnswers, IsMeetingAnswer, IsQueryAnswer, IsAnswer, AreAnswers, IsSearchGroup, IsGroup}

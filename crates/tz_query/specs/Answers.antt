@@ -19,8 +19,8 @@ use Rattle.tz.specs.declared.datetime.found.FoundDateTimeKind.{FoundDateTimeKind
 use Rattle.tz.specs.declared.datetime.found.FoundDateTimeKind.TheVariants.{Normal, Skipped}
 use Rattle.tz_query.specs.Lines.{AreLines, ended}
 use Rattle.tz_query.specs.Numbers.{space}
-use Rattle.tz_query.specs.declared.query.lines.Query.{Query}
-use Rattle.tz_query.specs.declared.query.lines.Query.TheVariants.{Time, Search, Meeting}
+use Rattle.tz_query.specs.declared.query.read_query.Query.{Query}
+use Rattle.tz_query.specs.declared.query.read_query.Query.TheVariants.{Time, Search, Meeting}
 use Rattle.tz_query.specs.Queries.{IsQueryLine}
 use Rattle.tz_query.specs.MeetingDates.{IsInYears, IsWeekOf, day_after}
 

@@ -4,7 +4,7 @@ use Rattle.std.specs.Str.Parse.{digits_value}
 use Rattle.tz_base.specs.declared.fields.Fields.{Fields}
 use Rattle.tz.specs.declared.datetime.found.FoundDateTimeKind.{FoundDateTimeKind}
 use Rattle.tz.specs.declared.datetime.found.FoundDateTimeKind.TheVariants.{Normal, Skipped}
-use Rattle.tz_query.specs.declared.query.lines.Nanoseconds.{Nanoseconds}
+use Rattle.tz_query.specs.declared.query.read_query.Nanoseconds.{Nanoseconds}
 
 -- the number of the digits
 abbrev pub number_of : Nanoseconds → ℕ

@@ -5,7 +5,7 @@ use Rattle.tz_zone.specs.ZoneRef.{zone_of}
 use Rattle.tz_query.specs.Answers.{IsQueryAnswer}
 use Rattle.tz_query.specs.Lines.{ended}
 use Rattle.tz_query.specs.declared.query.answers.Answers.{Answers}
-use Rattle.tz_query.specs.declared.query.lines.Query.{Query}
+use Rattle.tz_query.specs.declared.query.read_query.Query.{Query}
 use Rattle.tz_query.specs.declared.query.output.Output.{Output}
 
 -- the answers so far, and after them those on the page

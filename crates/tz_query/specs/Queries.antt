@@ -2,8 +2,8 @@
 use Rattle.std.specs.Prelude.{◌≡◌, ℕ, ◌^◌, ◌<◌, ℤ, pos, List, [], ◌∷◌, FitsSigned}
 use Rattle.std.specs.Int.{w32, w64}
 use Rattle.tz_base.specs.declared.fields.Fields.{Fields}
-use Rattle.tz_query.specs.declared.query.lines.Query.{Query}
-use Rattle.tz_query.specs.declared.query.lines.Query.TheVariants.{Time, Search, Meeting}
+use Rattle.tz_query.specs.declared.query.read_query.Query.{Query}
+use Rattle.tz_query.specs.declared.query.read_query.Query.TheVariants.{Time, Search, Meeting}
 use Rattle.tz_query.specs.Numbers.{AreNumbers}
 
 -- the letters with which lines begin

@@ -16,10 +16,10 @@ ghost use Rattle.tz.specs.Windows.{IsSmall};
 ghost use Rattle.tz_query.specs.Answers.{field_fault_text, IsFaultText, AreAnswers, AreFileAnswers};
 ghost use Rattle.tz_query.specs.MeetingDates.{IsInYears, IsWeekOf, day_after, midnight};
 
-use super::lines::{
+use super::output::{Output, Page, Written};
+use super::read_query::{
     Nanoseconds, Query, after_line, read_query, read_usual_search_line, read_usual_time_line,
 };
-use super::output::{Output, Page, Written};
 use std::alloc::{AllocError, Allocator};
 use tz::constants::{NANOSECONDS_PER_SECOND, SECONDS_PER_DAY, SECONDS_PER_WEEK};
 use tz::datetime::{DateTime, FoundDateTimeKind};
@@ -391,7 +391,7 @@ impl<'a, A: Allocator + Copy> Answers<'a, A> {
     ghost use Rattle.std.specs.Prelude.{IfOk, IfSome};
     ghost use Rattle.tz_zone.specs.Clock.{IsClock};
     ghost use Rattle.tz_zone.specs.ZoneRef.{zone_of};
-    ghost use Rattle.tz_query.specs.declared.query.lines.Query.TheVariants.{Time};
+    ghost use Rattle.tz_query.specs.declared.query.read_query.Query.TheVariants.{Time};
     ghost use Rattle.tz_query.specs.Nanoseconds.{number_of};
     ghost use Rattle.tz_query.specs.Outputs.{IsAnswered, IsSound, Leaves};
 
@@ -495,7 +495,7 @@ fn week_of(first: &Fields, begins: i64, weeks: u8) -> Option<Fields>
 
 impl<'a, A: Allocator + Copy> Answers<'a, A> {
     ghost use Rattle.tz_query.specs.Outputs.{IsAnswered, IsSound};
-    ghost use Rattle.tz_query.specs.declared.query.lines.Query.TheVariants.{Meeting};
+    ghost use Rattle.tz_query.specs.declared.query.read_query.Query.TheVariants.{Meeting};
 
     /// Answers a weekly meeting, which takes place in `count` weeks, in the first of them at these
     /// fields: for each week, by a search for its fields, or that its year is out of range.
@@ -536,7 +536,7 @@ impl<'a, A: Allocator + Copy> Answers<'a, A> {
     ghost use Rattle.tz_query.specs.Nanoseconds.{HasNanoseconds, number_of, with_nanoseconds};
     ghost use Rattle.tz_query.specs.Outputs.{Adds, IsAnswered, IsSound, Leaves};
     ghost use Rattle.tz_query.specs.Pages.{EndsLine};
-    ghost use Rattle.tz_query.specs.declared.query.lines.Query.TheVariants.{Search};
+    ghost use Rattle.tz_query.specs.declared.query.read_query.Query.TheVariants.{Search};
 
     /// Writes `front` and the line of fields that a type shows.
     #[inline(always)]

@@ -14,7 +14,7 @@ ghost use Rattle.tz_query.specs.Streams.{WritesAnswers, WritesFront, WritesFront
 ghost use Rattle.tz_zone.specs.ZoneRef.{zone_of};
 
 use super::answers::Suffix;
-use super::lines::Nanoseconds;
+use super::read_query::Nanoseconds;
 use crate::query::answers::answer;
 use std::alloc::{AllocError, Allocator};
 use std::io::{Read, Write};

@@ -11,7 +11,7 @@ ghost use Rattle.tz_base.specs.declared.error.TzError.{TzError};
 ghost use Rattle.tz_zone.specs.Table.{Zone};
 ghost use Rattle.tz_zone.specs.ZoneRef.{own_zone_of};
 
-use crate::query::lines::read_number;
+use super::read_query::read_number;
 use crate::query::output::{RunFault, run, write_front};
 use std::alloc::Allocator;
 use std::io::{Read, Write};

@@ -7,7 +7,7 @@ ghost use Rattle.tz_zone.specs.LeapTime.{IsInstant, IsReached, IsBeforeStart, Is
 ghost use Rattle.tz_zone.specs.ValidZone.{AreLeapSeconds, HasBegunAt};
 
 use super::LeapSecond;
-use super::table::{correction_at_start, correction_before, truncated_start};
+use super::table_checks::{correction_at_start, correction_before, truncated_start};
 use tz_base::error::TzError;
 
 /// Up to this instant no leap second takes the leap time out of 64 bits, whatever the table. It is

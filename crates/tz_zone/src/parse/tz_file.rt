@@ -30,7 +30,7 @@ ghost use Rattle.tz_zone.specs.ZoneRef.{own_zone_of};
 
 use super::tz_string::parse_posix_tz;
 use crate::leap::LeapSecond;
-use crate::leap::table::is_plain_table;
+use crate::leap::table_checks::is_plain_table;
 use crate::table::Transition;
 use crate::timezone::TimeZone;
 use std::alloc::{AllocError, Allocator, Global};

@@ -11,7 +11,7 @@ ghost use Rattle.tz_zone.specs.Offsets.{IsOffsetOfTypes, IsOffsetOfRule, IsLeast
 
 use super::{LeapSecond, LocalTimeType, Transition};
 use crate::leap::leap_time::effect;
-use crate::leap::table::{are_leap_seconds, has_begun_at};
+use crate::leap::table_checks::{are_leap_seconds, has_begun_at};
 use tz_base::error::{TimeZoneError, TzError};
 use tz_rule::inner::RuleRef;
 

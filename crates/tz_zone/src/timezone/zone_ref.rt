@@ -6,7 +6,7 @@ ghost use Rattle.tz_zone.specs.LentRules.{rule_of_source};
 use super::zone_data::{RuleSource, ZoneData};
 use super::{LeapSecond, LocalTimeType, Transition, TransitionRule};
 use crate::clock;
-use crate::leap::table::expiry;
+use crate::leap::table_checks::expiry;
 use crate::table::Counted;
 use std::fmt;
 use tz_base::error::TzError;

@@ -3,10 +3,10 @@
 //! search for them, date times as plain data, and how bytes are read.
 
 pub use crate::proved::tz::datetime::date_time::{DateTimeData, FoundData, UtcData, fields_of};
+pub use crate::proved::tz::datetime::disambiguation::find_one;
 pub use crate::proved::tz::datetime::ends::{Ends, FewEntries, ends_by_types};
 pub use crate::proved::tz::datetime::find::find_fields;
 pub use crate::proved::tz::datetime::gaps_and_folds::{types_of_window, window_of};
-pub use crate::proved::tz::datetime::meaning::find_one;
 pub use crate::proved::tz::datetime::zone_data_searches::{find_into, from_timespec};
 pub use crate::proved::tz::parse::{read_digits, value_of};
 pub use crate::proved::tz::print::middle_of;

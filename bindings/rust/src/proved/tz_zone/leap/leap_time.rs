@@ -2,7 +2,7 @@
 //! Leap times of instants, and instants of leap times.
 
 use super::LeapSecond;
-use super::table::{correction_at_start, correction_before, truncated_start};
+use super::table_checks::{correction_at_start, correction_before, truncated_start};
 use crate::proved::tz_base::error::TzError;
 
 /// Up to this instant no leap second takes the leap time out of 64 bits, whatever the table. It is

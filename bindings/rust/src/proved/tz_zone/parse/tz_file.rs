@@ -7,7 +7,7 @@ use super::tz_string::parse_posix_tz;
 use crate::proved::tz_base::error::{ParseDataError, TimeZoneError, TzError, TzFileError};
 use crate::proved::tz_rule::timezone::{LocalTimeType, TransitionRule};
 use crate::proved::tz_zone::leap::LeapSecond;
-use crate::proved::tz_zone::leap::table::is_plain_table;
+use crate::proved::tz_zone::leap::table_checks::is_plain_table;
 use crate::proved::tz_zone::table::Transition;
 use crate::proved::tz_zone::timezone::TimeZone;
 use crate::shim::Vec;

@@ -6,7 +6,7 @@ use super::{LeapSecond, LocalTimeType, Transition};
 use crate::proved::tz_base::error::{TimeZoneError, TzError};
 use crate::proved::tz_rule::inner::RuleRef;
 use crate::proved::tz_zone::leap::leap_time::effect;
-use crate::proved::tz_zone::leap::table::{are_leap_seconds, has_begun_at};
+use crate::proved::tz_zone::leap::table_checks::{are_leap_seconds, has_begun_at};
 
 /// Whether the type index of the transition at an index is below `types`, the number of types.
 const fn has_type_at(transitions: &[Transition], types: usize, index: usize) -> bool {

@@ -4,7 +4,7 @@
 use super::zone_data::{RuleSource, ZoneData};
 use super::{LeapSecond, LocalTimeType, Transition, TransitionRule};
 use crate::proved::tz_zone::clock;
-use crate::proved::tz_zone::leap::table::expiry;
+use crate::proved::tz_zone::leap::table_checks::expiry;
 
 use crate::proved::tz_base::error::TzError;
 use core::fmt;

@@ -3,10 +3,10 @@
 //! the segment that is kept from line to line (the clock has one type throughout it, so an instant
 //! in it need not be looked up), and answers of fields.
 
-use super::lines::{
+use super::output::{Output, Page, Written};
+use super::read_query::{
     Nanoseconds, Query, after_line, read_query, read_usual_search_line, read_usual_time_line,
 };
-use super::output::{Output, Page, Written};
 use crate::shim::Vec;
 use crate::shim::alloc::{AllocError, Allocator};
 use tz::proved::tz::constants::{NANOSECONDS_PER_SECOND, SECONDS_PER_DAY, SECONDS_PER_WEEK};

@@ -2,7 +2,7 @@
 //! Answers on their way out: a page of them, and the streams.
 
 use super::answers::Suffix;
-use super::lines::Nanoseconds;
+use super::read_query::Nanoseconds;
 use crate::proved::tz_query::query::answers::answer;
 use crate::shim::Vec;
 use crate::shim::alloc::{AllocError, Allocator};

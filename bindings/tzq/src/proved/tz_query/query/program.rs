@@ -1,7 +1,7 @@
 // Generated from crates/tz_query/src/query/program.rt by bindings/erase: its contracts are cut. Change that file instead.
 //! The program over arguments, a file reader, an input and outputs that are passed in.
 
-use crate::proved::tz_query::query::lines::read_number;
+use super::read_query::read_number;
 use crate::proved::tz_query::query::output::{RunFault, run, write_front};
 use crate::shim::Vec;
 use crate::shim::alloc::Allocator;

@@ -6,7 +6,7 @@ use mir.Syntax.{w64}
 use Rattle.tz_base.specs.declared.error.TzError.TheVariants.{DateTime}
 use Rattle.tz_base.specs.declared.error.DateTimeError.TheVariants.{InvalidNanoseconds}
 use Rattle.tz_query.proofs.AddedText.{answer_written}
-use Rattle.tz_query.specs.declared.query.lines.Query.TheVariants.{Time}
+use Rattle.tz_query.specs.declared.query.read_query.Query.TheVariants.{Time}
 use Rattle.tz_query.proofs.query.answers.Answers.answer_any_time.Goals as goal
 
 pub returns-then-nanoseconds-ge-NANOSECONDS_PER_SECOND : goal.returns-then-nanoseconds-ge-NANOSECONDS_PER_SECOND

@@ -8,7 +8,7 @@ use Rattle.tz_zone.specs.ZoneRef.{zone_of}
 use Rattle.tz_query.specs.Nanoseconds.{number_of}
 use Rattle.tz_query.proofs.AnswerLines.{clock_fault_text}
 use Rattle.tz_query.proofs.AddedText.{answer_written, time_answer_written}
-use Rattle.tz_query.specs.declared.query.lines.Query.TheVariants.{Time}
+use Rattle.tz_query.specs.declared.query.read_query.Query.TheVariants.{Time}
 use Rattle.tz_query.proofs.query.answers.Answers.answer_by_lookup.Goals as goal
 
 pub fault_name-requires : goal.fault_name-requires

@@ -15,7 +15,7 @@ use Rattle.tz_query.proofs.AddedText.{with_text}
 use Rattle.tz_query.proofs.AnswerLines.{told_field_fault, told_out_of_range}
 use Rattle.tz_query.proofs.EntryLines.{found_nanoseconds}
 use Rattle.tz_query.proofs.AddedText.{answer_written}
-use Rattle.tz_query.specs.declared.query.lines.Query.TheVariants.{Search}
+use Rattle.tz_query.specs.declared.query.read_query.Query.TheVariants.{Search}
 use Rattle.tz_query.proofs.query.answers.Answers.answer_by_search.Goals as goal
 
 pub returns-in-Ok : goal.returns-in-Ok

@@ -17,7 +17,7 @@ use Rattle.tz.specs.Windows.{IsSearchable}
 use Rattle.tz.specs.declared.datetime.found.FoundDateTimeKind.TheVariants.{Normal, Skipped}
 use Rattle.tz_query.specs.Answers.{found_lines}
 use Rattle.tz_query.specs.Nanoseconds.{number_of, with_nanoseconds}
-use Rattle.tz_query.specs.declared.query.lines.Query.TheVariants.{Search}
+use Rattle.tz_query.specs.declared.query.read_query.Query.TheVariants.{Search}
 use Rattle.tz_query.proofs.AddedText.{adds_both, answer_written, with_text}
 use Rattle.tz_query.proofs.EntryLines.{answered_by, lines_of_two, shown_once}
 use Rattle.tz_query.proofs.query.answers.Answers.answer_by_types.Goals as goal

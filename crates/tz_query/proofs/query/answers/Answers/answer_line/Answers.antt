@@ -4,7 +4,7 @@ use Rattle.std.proofs.lemmas.Int.{to_z-of_z}
 use Rattle.std.proofs.lemmas.List.{take_rest}
 use mir.Syntax.{w64}
 use Rattle.tz_query.specs.Lines.{IsFirstLine}
-use Rattle.tz_query.specs.declared.query.lines.Query.TheVariants.{Time, Search}
+use Rattle.tz_query.specs.declared.query.read_query.Query.TheVariants.{Time, Search}
 use Rattle.tz_query.proofs.query.answers.Answers.answer_line.Goals as goal
 
 pub returns-in-Some : goal.returns-in-Some

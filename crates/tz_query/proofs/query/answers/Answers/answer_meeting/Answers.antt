@@ -14,7 +14,7 @@ use Rattle.tz_query.proofs.AddedText.{adds_both, with_text}
 use Rattle.tz_query.proofs.OtherNanoseconds.{same_fields}
 use Rattle.tz_query.proofs.MeetingAnswers.{meeting_written, weeks_more}
 use Rattle.tz_query.proofs.AddedText.{answer_written}
-use Rattle.tz_query.specs.declared.query.lines.Query.TheVariants.{Meeting}
+use Rattle.tz_query.specs.declared.query.read_query.Query.TheVariants.{Meeting}
 use Rattle.tz_query.proofs.query.answers.Answers.answer_meeting.Goals.{in-Some+in_ok-answer_search-in-Some, in-None+in_ok-push_error-in-None}
 use Rattle.tz_query.proofs.query.answers.Answers.answer_meeting.Goals as goal
 

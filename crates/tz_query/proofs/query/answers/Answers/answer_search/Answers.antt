@@ -13,7 +13,7 @@ use Rattle.tz.specs.Entries.{AreEntries, Shown}
 use Rattle.tz.specs.Windows.{IsSearchable}
 use Rattle.tz.proofs.EntryWalks.{entries_once}
 use Rattle.tz_query.specs.Nanoseconds.{with_nanoseconds}
-use Rattle.tz_query.specs.declared.query.lines.Query.TheVariants.{Search}
+use Rattle.tz_query.specs.declared.query.read_query.Query.TheVariants.{Search}
 use Rattle.tz_query.proofs.AddedText.{answered_after}
 use Rattle.tz_query.proofs.EntryLines.{shown_once}
 use Rattle.tz_query.proofs.query.answers.Answers.answer_search.Goals as goal

@@ -4,7 +4,7 @@ use Rattle.std.proofs.lemmas.Int.{to_z-of_z}
 use mir.Syntax.{w64}
 use Rattle.tz_zone.specs.Clock.{IsClock}
 use Rattle.tz_zone.specs.ZoneRef.{zone_of}
-use Rattle.tz_query.specs.declared.query.lines.Query.TheVariants.{Time}
+use Rattle.tz_query.specs.declared.query.read_query.Query.TheVariants.{Time}
 use Rattle.tz_query.specs.Nanoseconds.{number_of}
 use Rattle.tz_query.proofs.AddedText.{answered_after, time_answer_written}
 use Rattle.tz_query.proofs.query.answers.Answers.answer_time.Goals as goal

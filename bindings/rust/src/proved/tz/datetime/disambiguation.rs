@@ -1,0 +1,270 @@
+// Generated from crates/tz/src/datetime/disambiguation.rt by bindings/erase: its contracts are cut. Change that file instead.
+//! What a local time means in a zone, without a list; and which date time it means, by a choice for
+//! gaps and folds.
+
+use super::ends::{Entry, FewEntries, ends_by_types, meant_in};
+use super::gaps_and_folds::{types_of_window, window_of};
+use super::zone_data_searches::from_timespec;
+use super::{DateTime, UtcDateTime};
+use crate::proved::tz_base::error::TzError;
+use crate::proved::tz_base::fields::Fields;
+use crate::proved::tz_zone::inner::{ZoneData, plain};
+use crate::proved::tz_zone::timezone::{LocalTimeType, TimeZoneRef};
+
+/// What a local time means in a zone: the instants at which clocks show it, and the jumps over it.
+#[derive(Clone, Copy, Debug, PartialEq)]
+pub enum Meaning {
+    /// Clocks never show it, and are not set forward over it. This is so if the zone has no clock
+    /// then.
+    Nothing,
+    /// Clocks show it once.
+    Once(DateTime),
+    /// Clocks show it twice, as when they are set back.
+    Twice {
+        /// The earlier date time.
+        first: DateTime,
+        /// The later one.
+        last: DateTime,
+    },
+    /// Clocks are set forward over it. Both sides have the Unix time of the jump, and the
+    /// nanoseconds of the local time.
+    Skipped {
+        /// The date time that the clock would have shown without the jump.
+        before_transition: DateTime,
+        /// The date time that the clock shows.
+        after_transition: DateTime,
+    },
+    /// Any other list, as of a jump and a date time, by the number of its entries.
+    /// [`DateTime::find`] returns them.
+    More(usize),
+}
+
+/// What fields mean in a zone.
+fn meaning_in(fields: &Fields, zone: &ZoneData<'_>) -> Result<Meaning, TzError> {
+    // For the proof, which bounds the entries by these offsets.
+    let (_least, _greatest) = zone.offsets();
+    fields.check()?;
+    let reading = fields.reading();
+    let (low, high) = window_of(zone, reading);
+    let types = types_of_window(zone, low, high);
+    let ends = ends_by_types(reading, zone, types, low, high)?;
+    match ends.few() {
+        FewEntries::Nothing => Ok(Meaning::Nothing),
+        FewEntries::Once(unix_time, local_time_type) => {
+            let date_time = DateTime::of_fields(fields, *local_time_type, unix_time);
+            Ok(Meaning::Once(date_time))
+        }
+        FewEntries::Twice(unix_time, before, later, after) => {
+            let first = DateTime::of_fields(fields, *before, unix_time);
+            let last = DateTime::of_fields(fields, *after, later);
+            Ok(Meaning::Twice { first, last })
+        }
+        FewEntries::Skipped(unix_time, before, after) => {
+            let before_transition = DateTime::shown_by(unix_time, fields.nanoseconds, *before)?;
+            let after_transition = DateTime::shown_by(unix_time, fields.nanoseconds, *after)?;
+            Ok(Meaning::Skipped {
+                before_transition,
+                after_transition,
+            })
+        }
+        FewEntries::More(count) => Ok(Meaning::More(count)),
+    }
+}
+
+impl DateTime {
+    /// What the fields mean in the zone: how often clocks show them, and whether they are set
+    /// forward over them. This call does not allocate.
+    ///
+    /// The month is from 1 to 12, the day of the month from 1, the hour from 0 to 23, the minute
+    /// from 0 to 59, the second from 0 to 60 and the nanoseconds below 10^9.
+    ///
+    /// # Errors
+    ///
+    /// Those of [`DateTime::find`] but `Memory`.
+    pub fn meaning(
+        year: i32,
+        month: u8,
+        month_day: u8,
+        hour: u8,
+        minute: u8,
+        second: u8,
+        nanoseconds: u32,
+        time_zone_ref: TimeZoneRef<'_>,
+    ) -> Result<Meaning, TzError> {
+        let fields = Fields::new(year, month, month_day, hour, minute, second, nanoseconds);
+        meaning_in(&fields, &plain(&time_zone_ref))
+    }
+
+    /// What the local time means in the zone. The `UtcDateTime` is read as a local time, without an
+    /// offset. This call does not allocate.
+    ///
+    /// # Errors
+    ///
+    /// [`TzError::OutOfRange`] as for [`DateTime::find`].
+    pub fn meaning_local(
+        local: UtcDateTime,
+        time_zone_ref: TimeZoneRef<'_>,
+    ) -> Result<Meaning, TzError> {
+        meaning_in(local.fields(), &plain(&time_zone_ref))
+    }
+}
+
+/// Which date time a local time means if clocks are set forward over it or show it more than once.
+///
+/// | choice | in a fold, where they show it twice | in a gap, where they skip it |
+/// |---|---|---|
+/// | `Compatible` | the first instant | as much later as clocks are set forward: 2:30 becomes 3:30 |
+/// | `Earlier` | the first instant | as much earlier: 2:30 becomes 1:30 |
+/// | `Later` | the last instant | as much later: 2:30 becomes 3:30 |
+/// | `Reject` | none | none |
+///
+/// If clocks show a local time exactly once and are not set forward over it, all choices mean that.
+/// If they do both, as when they are set back soon after, `Compatible` means the first instant at
+/// which they show it, `Earlier` and `Later` the first and the last entry of
+/// [`DateTime::find`](super::DateTime::find), and `Reject` none.
+#[derive(Clone, Copy, Debug, PartialEq, Eq)]
+pub enum Disambiguation {
+    /// The first instant at which clocks show it, or, in a gap, as much later as clocks are set
+    /// forward: what calendars do. (RFC 5545, 3.3.5)
+    Compatible,
+    /// The first entry: an instant at which clocks show it, or, in a gap, as much earlier as clocks
+    /// are set forward.
+    Earlier,
+    /// The last entry: an instant at which clocks show it, or, in a gap, as much later as clocks
+    /// are set forward.
+    Later,
+    /// The only instant at which clocks show it, or none if there are several or if clocks are also
+    /// set forward over it.
+    Reject,
+}
+
+/// The instant at which the clock is looked up for a jump over the fields.
+#[inline(always)]
+fn lookup_instant(
+    fields: &Fields,
+    disambiguation: Disambiguation,
+    before: &LocalTimeType,
+    after: &LocalTimeType,
+) -> i64 {
+    let local_time_type = match disambiguation {
+        Disambiguation::Earlier => after,
+        _ => before,
+    };
+    fields.reading() - i64::from(local_time_type.ut_offset())
+}
+
+/// What the zone's clock shows at a Unix time. It is not inlined, so that the search, which seldom
+/// needs it, is.
+#[cold]
+#[inline(never)]
+fn shown_apart(unix_time: i64, nanoseconds: u32, zone: &ZoneData<'_>) -> Result<DateTime, TzError> {
+    from_timespec(unix_time, nanoseconds, zone)
+}
+
+/// The one date time that fields mean, as [`DateTime::find_one`] answers it.
+#[inline(always)]
+pub fn find_one(
+    fields: &Fields,
+    disambiguation: Disambiguation,
+    zone: &ZoneData<'_>,
+) -> Result<Option<DateTime>, TzError> {
+    fields.check()?;
+    match meant_in(fields.reading(), disambiguation, zone)? {
+        None => Ok(None),
+        Some(Entry::Shown(unix_time, local_time_type)) => {
+            let date_time = DateTime::of_fields(fields, *local_time_type, unix_time);
+            Ok(Some(date_time))
+        }
+        Some(Entry::Jump(_, before, after)) => {
+            let unix_time = lookup_instant(fields, disambiguation, before, after);
+            Ok(Some(shown_apart(unix_time, fields.nanoseconds, zone)?))
+        }
+    }
+}
+
+impl DateTime {
+    /// The one date time that a local time means, or `None` if the zone's clock neither shows it
+    /// nor is set forward over it, or if `Reject` rejects it.
+    ///
+    /// The fields are in the ranges of [`DateTime::find`]. If the choice means a jump over the
+    /// local time, the result is what the clock shows at another instant, earlier or later. This
+    /// call does not allocate.
+    ///
+    /// Noon of a date in a zone:
+    ///
+    /// ```
+    /// # use std::time::Duration;
+    /// # use tz::{datetime::*, error::*, timezone::*, *};
+    /// pub fn noon(
+    ///     zone: TimeZoneRef<'_>,
+    ///     year: i32,
+    ///     month: u8,
+    ///     month_day: u8,
+    /// ) -> Result<Option<DateTime>, TzError> {
+    ///     let choice = Disambiguation::Compatible;
+    ///     DateTime::find_one(year, month, month_day, 12, 0, 0, 0, choice, zone)
+    /// }
+    /// ```
+    ///
+    /// # Errors
+    ///
+    /// - those of [`DateTime::find`] but `Memory`;
+    /// - those of [`DateTime::from_timespec`] at that other instant, if the choice means a jump.
+    pub fn find_one(
+        year: i32,
+        month: u8,
+        month_day: u8,
+        hour: u8,
+        minute: u8,
+        second: u8,
+        nanoseconds: u32,
+        disambiguation: Disambiguation,
+        time_zone_ref: TimeZoneRef<'_>,
+    ) -> Result<Option<Self>, TzError> {
+        let fields = Fields::new(year, month, month_day, hour, minute, second, nanoseconds);
+        find_one(&fields, disambiguation, &plain(&time_zone_ref))
+    }
+
+    /// The one date time that a local time means. The local time is passed as a [`UtcDateTime`]
+    /// with its fields, which serves here as a date and a time of day without a zone.
+    ///
+    /// The result is that of [`DateTime::find_one`] for these fields.
+    ///
+    /// When a daily job at a local time runs next after an instant:
+    ///
+    /// ```
+    /// # use std::time::Duration;
+    /// # use tz::{datetime::*, error::*, timezone::*, *};
+    /// pub fn next_daily_run(
+    ///     zone: TimeZoneRef<'_>,
+    ///     hour: u8,
+    ///     minute: u8,
+    ///     now: i64,
+    /// ) -> Result<Option<DateTime>, TzError> {
+    ///     let today = DateTime::from_timespec(now, 0, zone)?;
+    ///     let (year, month, month_day) = (today.year(), today.month(), today.month_day());
+    ///     let local = UtcDateTime::new(year, month, month_day, hour, minute, 0, 0)?;
+    ///     let day = Duration::from_secs(86_400);
+    ///     // Yesterday's run is still to come where clocks have just been set over midnight.
+    ///     for local in [local.checked_sub(day), Some(local), local.checked_add(day)] {
+    ///         let local = local.ok_or(TzError::OutOfRange)?;
+    ///         match DateTime::from_local(local, Disambiguation::Compatible, zone)? {
+    ///             Some(run) if now < run.unix_time() => return Ok(Some(run)),
+    ///             _ => {}
+    ///         }
+    ///     }
+    ///     Ok(None)
+    /// }
+    /// ```
+    ///
+    /// # Errors
+    ///
+    /// Those of [`DateTime::find_one`] for fields that are valid.
+    pub fn from_local(
+        local: UtcDateTime,
+        disambiguation: Disambiguation,
+        time_zone_ref: TimeZoneRef<'_>,
+    ) -> Result<Option<Self>, TzError> {
+        find_one(local.fields(), disambiguation, &plain(&time_zone_ref))
+    }
+}

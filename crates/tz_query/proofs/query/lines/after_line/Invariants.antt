@@ -1,6 +1,0 @@
-use Rattle.std.proofs.Common.{take}
-use Rattle.tz_query.specs.Lines.{IsLine}
-use Rattle.tz_query.proofs.query.lines.after_line.Given as goal
-
-abbrev pub invariant-loop-position : goal.invariant-loop-position
-invariant-loop-position l = IsLine (take l.position l.bytes)

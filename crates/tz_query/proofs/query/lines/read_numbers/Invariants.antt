@@ -1,6 +1,0 @@
-use Rattle.std.proofs.Common.{◌≡◌, length, take}
-use Rattle.tz_query.specs.Numbers.{ArePartsFront}
-use Rattle.tz_query.proofs.query.lines.read_numbers.Given as goal
-
-abbrev pub invariant-loop-position : goal.invariant-loop-position
-invariant-loop-position g l = (length l.numbers ≡ g.row.N) × ArePartsFront l.bytes (take l.position l.numbers) l.rest

@@ -1,0 +1,6 @@
+-- The first bytes are zeros.
+use Rattle.std.proofs.Common.{◌≡◌, length, replicate, ◌++◌, drop}
+use Rattle.tz_query.proofs.query.read_query.read_nanoseconds.Given as goal
+
+abbrev pub invariant-loop-index : goal.invariant-loop-index
+invariant-loop-index l = (length l.nine ≡ 9) × (l.nine ≡ replicate l.index 48 ++ drop l.index l.initial.nine)
