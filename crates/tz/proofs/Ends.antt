@@ -26,9 +26,9 @@ use Rattle.tz.specs.Meanings.{IsMeaning, IsMeaningFault, IsMeantIn, instant_mean
 use Rattle.tz.specs.Meanings.{first_shown as first_found_shown, last_entry as last_found}
 use Rattle.tz.specs.declared.datetime.disambiguation.Disambiguation.{Disambiguation}
 use Rattle.tz.specs.declared.datetime.disambiguation.Disambiguation.TheVariants.{Compatible, Earlier, Later, Reject}
-use Rattle.tz.specs.declared.datetime.ends.Ends.{Ends}
-use Rattle.tz.specs.declared.datetime.ends.Entry.{Entry as LentEntry}
-use Rattle.tz.specs.declared.datetime.ends.Entry.TheVariants as lent
+use Rattle.tz.specs.declared.datetime.disambiguation.Ends.{Ends}
+use Rattle.tz.specs.declared.datetime.disambiguation.Entry.{Entry as LentEntry}
+use Rattle.tz.specs.declared.datetime.disambiguation.Entry.TheVariants as lent
 use Rattle.tz.specs.declared.datetime.found.FoundDateTimeKind.{FoundDateTimeKind}
 use Rattle.tz.specs.declared.datetime.found.FoundDateTimeKind.TheVariants.{Normal, Skipped}
 use Rattle.tz.specs.declared.datetime.disambiguation.Meaning.TheVariants.{Nothing, Once, Twice, Skipped as Gap, More}

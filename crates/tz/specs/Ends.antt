@@ -18,12 +18,12 @@ use Rattle.tz.specs.declared.datetime.disambiguation.Disambiguation.{Disambiguat
 use Rattle.tz.specs.declared.datetime.disambiguation.Disambiguation.TheVariants.{Compatible}
 use Rattle.tz.specs.declared.datetime.disambiguation.Disambiguation.TheVariants.{Earlier, Later}
 use Rattle.tz.specs.declared.datetime.disambiguation.Disambiguation.TheVariants.{Reject}
-use Rattle.tz.specs.declared.datetime.ends.Ends.{Ends}
-use Rattle.tz.specs.declared.datetime.ends.FewEntries.{FewEntries}
-use Rattle.tz.specs.declared.datetime.ends.FewEntries.TheVariants.{Nothing, Once, Twice, Skipped}
-use Rattle.tz.specs.declared.datetime.ends.FewEntries.TheVariants.{More}
-use Rattle.tz.specs.declared.datetime.ends.Entry.{Entry as LentEntry}
-use Rattle.tz.specs.declared.datetime.ends.Entry.TheVariants as lent
+use Rattle.tz.specs.declared.datetime.disambiguation.Ends.{Ends}
+use Rattle.tz.specs.declared.datetime.disambiguation.FewEntries.{FewEntries}
+use Rattle.tz.specs.declared.datetime.disambiguation.FewEntries.TheVariants.{Nothing, Once, Twice, Skipped}
+use Rattle.tz.specs.declared.datetime.disambiguation.FewEntries.TheVariants.{More}
+use Rattle.tz.specs.declared.datetime.disambiguation.Entry.{Entry as LentEntry}
+use Rattle.tz.specs.declared.datetime.disambiguation.Entry.TheVariants as lent
 
 -- an entry whose types are lent
 abbrev pub entry_of : LentEntry → Entry

@@ -463,14 +463,14 @@ impl ParsedDateTime {
     }
 
     /// The local time.
-    pub fn local(&self) -> UtcDateTime
+    pub const fn local(&self) -> UtcDateTime
         ensures { result ≡ self.now.local }
     {
         self.local
     }
 
     /// The offset from UTC in seconds, 0 for `Z`, or `None` if the text has none.
-    pub fn ut_offset(&self) -> Option<i32>
+    pub const fn ut_offset(&self) -> Option<i32>
         ensures { result ≡ self.now.ut_offset }
     {
         self.ut_offset

@@ -54,7 +54,7 @@ pub fn two_pairs(number: u32) -> ([u8; 2], [u8; 2])
 
 impl TextBuffer {
     /// An empty text.
-    pub fn new() -> Self
+    pub const fn new() -> Self
         ensures { result ≡ [] }
     {
         TextBuffer {

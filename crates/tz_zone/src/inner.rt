@@ -19,7 +19,7 @@ pub use crate::timezone::zone_data::{RuleSource, ZoneData};
 
 /// The zone's plain data.
 #[inline(always)]
-pub fn plain<'a>(zone: &TimeZoneRef<'a>) -> ZoneData<'a>
+pub const fn plain<'a>(zone: &TimeZoneRef<'a>) -> ZoneData<'a>
     ensures { zone_of_data result ≡ zone_of zone.entry.now }
 {
     zone.plain

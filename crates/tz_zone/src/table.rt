@@ -35,7 +35,7 @@ impl Model for Transition {
 
 impl Transition {
     /// The transition at this leap time to the type with this number.
-    pub fn new(unix_leap_time: i64, local_time_type_index: usize) -> Self
+    pub const fn new(unix_leap_time: i64, local_time_type_index: usize) -> Self
         ensures { result ≡ record {
           unix_leap_time = unix_leap_time;
           type_index =
@@ -49,14 +49,14 @@ impl Transition {
     }
 
     /// The leap time: Unix time with the leap seconds so far counted in.
-    pub fn unix_leap_time(&self) -> i64
+    pub const fn unix_leap_time(&self) -> i64
         ensures { result ≡ self.now.unix_leap_time }
     {
         self.unix_leap_time
     }
 
     /// The number of the type in the zone's list.
-    pub fn local_time_type_index(&self) -> usize
+    pub const fn local_time_type_index(&self) -> usize
         ensures { result ≡ self.now.type_index }
     {
         self.local_time_type_index

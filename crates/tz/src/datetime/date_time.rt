@@ -177,7 +177,11 @@ impl DateTime {
 
     /// The date time with valid fields, which the type shows at a Unix time.
     #[inline(always)]
-    pub(super) fn of_fields(fields: &Fields, local_time_type: LocalTimeType, unix_time: i64) -> Self
+    pub(super) const fn of_fields(
+        fields: &Fields,
+        local_time_type: LocalTimeType,
+        unix_time: i64,
+    ) -> Self
         requires valid { IsValid fields.now }
         requires instant { unix_time ≡ reading fields.now -ℤ local_time_type.ut_offset }
         ensures { result ≡ record {
@@ -200,7 +204,7 @@ impl DateTime {
     /// - [`TzError::DateTime`] with [`DateTimeError::InvalidNanoseconds`] if there are 10^9
     ///   nanoseconds or more;
     /// - [`TzError::OutOfRange`] if the year that the type shows does not fit an `i32`.
-    pub fn from_timespec_and_local(
+    pub const fn from_timespec_and_local(
         unix_time: i64,
         nanoseconds: u32,
         local_time_type: LocalTimeType,
@@ -218,7 +222,7 @@ impl DateTime {
 
     /// The date time that the type shows at a Unix time.
     #[inline(always)]
-    pub(super) fn shown_by(
+    pub(super) const fn shown_by(
         unix_time: i64,
         nanoseconds: u32,
         local_time_type: LocalTimeType,
@@ -283,7 +287,7 @@ impl DateTime {
     /// # Errors
     ///
     /// [`TzError::OutOfRange`] if the year that the type shows does not fit an `i32`.
-    pub fn from_total_nanoseconds_and_local(
+    pub const fn from_total_nanoseconds_and_local(
         total_nanoseconds: i128,
         local_time_type: LocalTimeType,
     ) -> Result<Self, TzError>
@@ -363,56 +367,56 @@ impl DateTime {
     }
 
     /// The year.
-    pub fn year(&self) -> i32
+    pub const fn year(&self) -> i32
         ensures { result ≡ self.now.fields.year }
     {
         self.fields.year
     }
 
     /// The month, from 1 to 12.
-    pub fn month(&self) -> u8
+    pub const fn month(&self) -> u8
         ensures { result ≡ self.now.fields.month }
     {
         self.fields.month
     }
 
     /// The day of the month, from 1 to 31.
-    pub fn month_day(&self) -> u8
+    pub const fn month_day(&self) -> u8
         ensures { result ≡ self.now.fields.month_day }
     {
         self.fields.month_day
     }
 
     /// Hours since midnight, from 0 to 23.
-    pub fn hour(&self) -> u8
+    pub const fn hour(&self) -> u8
         ensures { result ≡ self.now.fields.hour }
     {
         self.fields.hour
     }
 
     /// Minutes since the hour, from 0 to 59.
-    pub fn minute(&self) -> u8
+    pub const fn minute(&self) -> u8
         ensures { result ≡ self.now.fields.minute }
     {
         self.fields.minute
     }
 
     /// Seconds since the minute, from 0 to 60.
-    pub fn second(&self) -> u8
+    pub const fn second(&self) -> u8
         ensures { result ≡ self.now.fields.second }
     {
         self.fields.second
     }
 
     /// Nanoseconds since the second, below 1000000000.
-    pub fn nanoseconds(&self) -> u32
+    pub const fn nanoseconds(&self) -> u32
         ensures { result ≡ self.now.fields.nanoseconds }
     {
         self.fields.nanoseconds
     }
 
     /// The week day, from Sunday = 0 to 6.
-    pub fn week_day(&self) -> u8
+    pub const fn week_day(&self) -> u8
         ensures value { pos result ≡ week_day_of (day_of self.now.fields) }
         ensures bound { result < 7 }
     {
@@ -420,7 +424,7 @@ impl DateTime {
     }
 
     /// Days since January 1st, from 0 to 365.
-    pub fn year_day(&self) -> u16
+    pub const fn year_day(&self) -> u16
         ensures value { pos result ≡ day_of self.now.fields -ℤ first_day self.now.fields.year }
         ensures bound { result < 366 }
     {
@@ -428,21 +432,21 @@ impl DateTime {
     }
 
     /// The local time type that shows these fields.
-    pub fn local_time_type(&self) -> &LocalTimeType
+    pub const fn local_time_type(&self) -> &LocalTimeType
         ensures { result.now ≡ self.now.local_time_type }
     {
         &self.local_time_type
     }
 
     /// Seconds from 1970-01-01T00:00:00Z on.
-    pub fn unix_time(&self) -> i64
+    pub const fn unix_time(&self) -> i64
         ensures { result ≡ self.now.unix_time }
     {
         self.unix_time
     }
 
     /// Nanoseconds from 1970-01-01T00:00:00Z on.
-    pub fn total_nanoseconds(&self) -> i128
+    pub const fn total_nanoseconds(&self) -> i128
         ensures value { result ≡ total_of self.now }
         ensures bound { IsNearTotal result }
     {
@@ -454,7 +458,7 @@ impl DateTime {
     /// # Errors
     ///
     /// The duration from this date time to the other one, if that one is later.
-    pub fn duration_since(&self, earlier: Self) -> Result<Duration, Duration>
+    pub const fn duration_since(&self, earlier: Self) -> Result<Duration, Duration>
         ensures ok { IfOk result (IsForwards (total_of earlier) (total_of self.now)) }
         ensures err { IfErr result (IsBackwards (total_of earlier) (total_of self.now)) }
     {
@@ -463,7 +467,7 @@ impl DateTime {
 
     /// The fields, which are valid and shown.
     #[inline(always)]
-    pub(crate) fn fields(&self) -> &Fields
+    pub(crate) const fn fields(&self) -> &Fields
         ensures fields { result.now ≡ self.now.fields }
         ensures sound { IsDateTime self.now }
     {
@@ -551,7 +555,7 @@ pub struct FoundData {
 impl UtcData {
     /// The data of a date time.
     #[inline(always)]
-    pub fn of(date_time: &UtcDateTime) -> Self
+    pub const fn of(date_time: &UtcDateTime) -> Self
         ensures fields { result.fields ≡ date_time.now }
         ensures value { IsUtcData result }
     {
@@ -565,7 +569,7 @@ impl UtcData {
 impl DateTimeData {
     /// The data of a date time.
     #[inline(always)]
-    pub fn of(date_time: &DateTime) -> Self
+    pub const fn of(date_time: &DateTime) -> Self
         ensures value { result ≡ date_time_data date_time.now }
         ensures sound { IsDateTime date_time.now }
     {

@@ -146,7 +146,7 @@ impl<'a, S: Slot> SlotWriter<'a, S> {
 
     /// Nothing is found yet. The first entries, this many, get no slot.
     #[inline(always)]
-    pub(super) fn new(slots: &'a mut [S], skip: usize) -> Self
+    pub(super) const fn new(slots: &'a mut [S], skip: usize) -> Self
         ensures same_reference { result.slots.ghost_name ≡ slots.entry.ghost_name }
         ensures slots { result.slots.now ≡ slots.old }
         ensures skip { result.skip ≡ skip }

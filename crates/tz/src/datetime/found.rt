@@ -29,7 +29,7 @@ impl FoundDateTimeKind {
 
     /// The date time twice, or the sides before and after the jump.
     #[inline(always)]
-    pub(crate) fn sides(&self) -> (&DateTime, &DateTime)
+    pub(crate) const fn sides(&self) -> (&DateTime, &DateTime)
         ensures first { result.0.now ≡ first_side self.now }
         ensures last { result.1.now ≡ last_side self.now }
     {
@@ -175,7 +175,7 @@ impl<'a> FoundDateTimeListRefMut<'a> {
     ghost use Rattle.tz.specs.Slots.{written_of, unique_slot, earliest_slot, latest_slot};
 
     /// A list of these slots with nothing found: its count is 0, and the slots stay as they are.
-    pub fn new(buf: &'a mut [Option<FoundDateTimeKind>]) -> Self
+    pub const fn new(buf: &'a mut [Option<FoundDateTimeKind>]) -> Self
         ensures same_reference { reference_of result ≡ buf.entry.ghost_name }
         ensures slots { slots_of result ≡ buf.old }
         ensures count { count_of result ≡ 0 }
@@ -207,14 +207,14 @@ impl<'a> FoundDateTimeListRefMut<'a> {
     }
 
     /// How many date times were found, whether there was a slot for each or not.
-    pub fn count(&self) -> usize
+    pub const fn count(&self) -> usize
         ensures { result ≡ count_of self.now }
     {
         self.count
     }
 
     /// Whether there was a slot for each date time.
-    pub fn is_exhaustive(&self) -> bool
+    pub const fn is_exhaustive(&self) -> bool
         ensures { IsTrue result ↔ (count_of self.now ≤ length (slots_of self.now)) }
     {
         self.count <= self.buf.len()

@@ -82,7 +82,7 @@ const _: () = prove!(
 
 /// Whether the fields are second 60 of the last minute, which reads as a second past the years of
 /// 32 bits.
-pub(crate) fn is_past_the_end(fields: &Fields) -> bool
+pub(crate) const fn is_past_the_end(fields: &Fields) -> bool
     ensures { MatchBool result (IsPastTheEnd fields.now) (¬ IsPastTheEnd fields.now) }
 {
     fields.year == i32::MAX
@@ -161,7 +161,7 @@ impl UtcDateTime {
     ///   the nanoseconds;
     /// - [`TzError::DateTime`] with the first field that is out of range, in the order of the
     ///   arguments, or else with `InvalidMonthDay` if the month does not have the day.
-    pub fn new(
+    pub const fn new(
         year: i32,
         month: u8,
         month_day: u8,
@@ -189,7 +189,7 @@ impl UtcDateTime {
 
     /// The date time with these fields, which have one.
     #[inline(always)]
-    pub(crate) fn of_fields(fields: Fields) -> Self
+    pub(crate) const fn of_fields(fields: Fields) -> Self
         requires { IsUtc fields }
         ensures { result ≡ fields }
     {
@@ -200,7 +200,7 @@ impl UtcDateTime {
     }
 
     /// The date time of a Unix time and nanoseconds, which have one.
-    fn at(unix_time: i64, nanoseconds: u32) -> Self
+    const fn at(unix_time: i64, nanoseconds: u32) -> Self
         requires in_range { IsReading unix_time }
         requires part { nanoseconds < 1000000000 }
         ensures { IsCivil unix_time nanoseconds result }
@@ -218,7 +218,7 @@ impl UtcDateTime {
     /// - [`TzError::DateTime`] with [`DateTimeError::InvalidNanoseconds`] if there are 10^9
     ///   nanoseconds or more;
     /// - [`TzError::OutOfRange`] if the year does not fit an `i32`.
-    pub fn from_timespec(unix_time: i64, nanoseconds: u32) -> Result<Self, TzError>
+    pub const fn from_timespec(unix_time: i64, nanoseconds: u32) -> Result<Self, TzError>
         ensures ok { IfOk result (IsCivil unix_time nanoseconds) }
         ensures instant { OnOk result (IsReading unix_time) }
         ensures err { IfErr result (IsShowFault unix_time nanoseconds) }
@@ -263,7 +263,7 @@ impl UtcDateTime {
     }
 
     /// The fields.
-    pub(crate) fn fields(&self) -> &Fields
+    pub(crate) const fn fields(&self) -> &Fields
         ensures value { result.now ≡ self.now }
         ensures sound { IsUtc self.now }
     {
@@ -271,56 +271,56 @@ impl UtcDateTime {
     }
 
     /// Seconds from [`UtcDateTime::UNIX_EPOCH`] on. Second 60 counts as the next minute's second 0.
-    pub fn unix_time(&self) -> i64
+    pub const fn unix_time(&self) -> i64
         ensures { result ≡ reading self.now }
     {
         self.unix_time
     }
 
     /// The year.
-    pub fn year(&self) -> i32
+    pub const fn year(&self) -> i32
         ensures { result ≡ self.now.year }
     {
         self.fields.year
     }
 
     /// The month, from 1 to 12.
-    pub fn month(&self) -> u8
+    pub const fn month(&self) -> u8
         ensures { result ≡ self.now.month }
     {
         self.fields.month
     }
 
     /// The day of the month, from 1 to 31.
-    pub fn month_day(&self) -> u8
+    pub const fn month_day(&self) -> u8
         ensures { result ≡ self.now.month_day }
     {
         self.fields.month_day
     }
 
     /// Hours since midnight, from 0 to 23.
-    pub fn hour(&self) -> u8
+    pub const fn hour(&self) -> u8
         ensures { result ≡ self.now.hour }
     {
         self.fields.hour
     }
 
     /// Minutes since the hour, from 0 to 59.
-    pub fn minute(&self) -> u8
+    pub const fn minute(&self) -> u8
         ensures { result ≡ self.now.minute }
     {
         self.fields.minute
     }
 
     /// Seconds since the minute, from 0 to 60.
-    pub fn second(&self) -> u8
+    pub const fn second(&self) -> u8
         ensures { result ≡ self.now.second }
     {
         self.fields.second
     }
 
     /// Nanoseconds since the second, below 1000000000.
-    pub fn nanoseconds(&self) -> u32
+    pub const fn nanoseconds(&self) -> u32
         ensures { result ≡ self.now.nanoseconds }
     {
         self.fields.nanoseconds
@@ -352,7 +352,7 @@ impl UtcDateTime {
     ///     Ok(None)
     /// }
     /// ```
-    pub fn week_day(&self) -> u8
+    pub const fn week_day(&self) -> u8
         ensures value { pos result ≡ week_day_of (day_of self.now) }
         ensures bound { result < 7 }
     {
@@ -360,7 +360,7 @@ impl UtcDateTime {
     }
 
     /// Days since January 1st, from 0 to 365.
-    pub fn year_day(&self) -> u16
+    pub const fn year_day(&self) -> u16
         ensures value { pos result ≡ day_of self.now -ℤ first_day self.now.year }
         ensures bound { result < 366 }
     {
@@ -368,7 +368,7 @@ impl UtcDateTime {
     }
 
     /// Nanoseconds from [`UtcDateTime::UNIX_EPOCH`] on.
-    pub fn total_nanoseconds(&self) -> i128
+    pub const fn total_nanoseconds(&self) -> i128
         ensures value { result ≡ utc_total self.now }
         ensures bound { IsUtcTotal result }
     {
@@ -449,7 +449,7 @@ impl UtcDateTime {
     /// # Errors
     ///
     /// The duration from this date time to the other one, if that one is later.
-    pub fn duration_since(&self, earlier: Self) -> Result<Duration, Duration>
+    pub const fn duration_since(&self, earlier: Self) -> Result<Duration, Duration>
         ensures ok { IfOk result (IsForwards (utc_total earlier) (utc_total self.now)) }
         ensures err { IfErr result (IsBackwards (utc_total earlier) (utc_total self.now)) }
     {
@@ -651,7 +651,7 @@ fn time_before(seconds: i64, nanoseconds: u32, duration: Duration) -> Option<(i6
 
 /// The duration between two totals: `Ok` if the later one is not below the earlier one, and
 /// otherwise `Err` with the way back.
-pub(super) fn duration_between(earlier: i128, later: i128) -> Result<Duration, Duration>
+pub(super) const fn duration_between(earlier: i128, later: i128) -> Result<Duration, Duration>
     requires earlier { IsNearTotal earlier }
     requires later { IsNearTotal later }
     ensures ok { IfOk result (IsForwards earlier later) }

@@ -11,7 +11,7 @@ ghost use Rattle.tz.specs.Plain.{entries_from, placed};
 ghost use Rattle.tz.specs.declared.datetime.found.FoundDateTimeKind.{FoundDateTimeKind};
 
 use super::date_time::FoundData;
-use super::ends::meant_in;
+use super::disambiguation::meant_in;
 use super::entry_takers::SlotWriter;
 use super::gaps_and_folds::search;
 use super::{DateTime, Disambiguation};

@@ -29,7 +29,7 @@ const MOST_GUESSED: usize = 1024;
 
 /// The greatest power of two up to a number.
 #[inline(always)]
-fn power_up_to(number: usize) -> usize
+const fn power_up_to(number: usize) -> usize
     requires { 0 < number }
     ensures power { (exponent : ℕ) × (result ≡ 2 ^ exponent) }
     ensures within { (0 < result) × (result ≤ number) }

@@ -71,7 +71,7 @@ fn position_at_effect(zone: &ZoneData<'_>, index: usize, effect: i64) -> usize
 /// type, `local_time_type`. The position after all transitions is a run of its own: from there on
 /// the rule has the types.
 #[inline(always)]
-fn end_of_run(zone: &ZoneData<'_>, position: usize, local_time_type: &LocalTimeType) -> usize
+const fn end_of_run(zone: &ZoneData<'_>, position: usize, local_time_type: &LocalTimeType) -> usize
     requires position { position < length (zone_of_data zone.now).transitions }
     requires is_type { IsTypeOfLast (zone_of_data zone.now) position local_time_type.now }
     ensures within { (position ≤ result) × (result < length (zone_of_data zone.now).transitions) }
@@ -215,7 +215,11 @@ fn preceding_by_rule<'a>(zone: &ZoneData<'a>, last: i64) -> Option<Change<'a>>
 /// The first position, from 1 on, of the run of `position`: the transitions from the one before it
 /// up to `position` are to one type, `local_time_type`.
 #[inline(always)]
-fn start_of_run(zone: &ZoneData<'_>, position: usize, local_time_type: &LocalTimeType) -> usize
+const fn start_of_run(
+    zone: &ZoneData<'_>,
+    position: usize,
+    local_time_type: &LocalTimeType,
+) -> usize
     requires position { (0 < position) × (position ≤ length (zone_of_data zone.now).transitions) }
     requires is_type { IsTypeOfLast (zone_of_data zone.now) position local_time_type.now }
     ensures within { (0 < result) × (result ≤ position) }

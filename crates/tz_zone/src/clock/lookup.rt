@@ -78,7 +78,7 @@ pub(super) fn before<V: Transitions>(view: &mut V, position: usize) -> Transitio
 
 /// The type of a transition.
 #[inline(always)]
-pub(super) fn type_of<'a>(zone: &ZoneData<'a>, change: Transition) -> &'a LocalTimeType
+pub(super) const fn type_of<'a>(zone: &ZoneData<'a>, change: Transition) -> &'a LocalTimeType
     requires { change.type_index < length (zone_of_data zone.now).types }
     ensures { IsTypeAt (zone_of_data zone.now) change.type_index result.now }
 {

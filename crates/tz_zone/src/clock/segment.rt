@@ -33,7 +33,11 @@ impl<'a> Change<'a> {
     ghost use Rattle.tz_zone.specs.Changes.{change_of};
 
     /// The change with these parts.
-    pub(crate) fn new(unix_time: i64, before: &'a LocalTimeType, after: &'a LocalTimeType) -> Self
+    pub(crate) const fn new(
+        unix_time: i64,
+        before: &'a LocalTimeType,
+        after: &'a LocalTimeType,
+    ) -> Self
         ensures { change_of result ≡ record {
           unix_time = unix_time;
           before = before.now;
@@ -48,21 +52,21 @@ impl<'a> Change<'a> {
     }
 
     /// The first instant with the new type, in Unix seconds.
-    pub fn unix_time(&self) -> i64
+    pub const fn unix_time(&self) -> i64
         ensures { result ≡ (change_of self.now).unix_time }
     {
         self.unix_time
     }
 
     /// The type at the instant before.
-    pub fn before(&self) -> &'a LocalTimeType
+    pub const fn before(&self) -> &'a LocalTimeType
         ensures { result.now ≡ (change_of self.now).before }
     {
         self.before
     }
 
     /// The type from the instant on.
-    pub fn after(&self) -> &'a LocalTimeType
+    pub const fn after(&self) -> &'a LocalTimeType
         ensures { result.now ≡ (change_of self.now).after }
     {
         self.after
@@ -108,28 +112,28 @@ impl<'a> Segment<'a> {
     ghost use Rattle.tz_zone.specs.Changes.{segment_of};
 
     /// The first instant, in Unix seconds.
-    pub fn from(&self) -> i64
+    pub const fn from(&self) -> i64
         ensures { result ≡ (segment_of self.now).from }
     {
         self.from
     }
 
     /// The last instant, in Unix seconds. The segment around the next one may begin before it.
-    pub fn last(&self) -> i64
+    pub const fn last(&self) -> i64
         ensures { result ≡ (segment_of self.now).last }
     {
         self.last
     }
 
     /// The type that the clock has throughout the segment, or `None` if it has none.
-    pub fn local_time_type(&self) -> Option<&'a LocalTimeType>
+    pub const fn local_time_type(&self) -> Option<&'a LocalTimeType>
         ensures { option_copied result ≡ (segment_of self.now).local_time_type }
     {
         self.local_time_type
     }
 
     /// Whether an instant, in Unix seconds, is in the segment.
-    pub fn contains(&self, unix_time: i64) -> bool
+    pub const fn contains(&self, unix_time: i64) -> bool
         ensures { IsTrue result ↔ (((segment_of self.now).from ≤ℤ unix_time)
             × (unix_time ≤ℤ (segment_of self.now).last)) }
     {

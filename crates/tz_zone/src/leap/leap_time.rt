@@ -61,7 +61,7 @@ pub(crate) fn first_begun(leap_seconds: &[LeapSecond], unix_time: i64) -> Option
 }
 
 /// How many leap seconds have a time that is not above a leap time, by halving.
-pub(crate) fn leap_seconds_up_to(leap_seconds: &[LeapSecond], unix_leap_time: i64) -> usize
+pub(crate) const fn leap_seconds_up_to(leap_seconds: &[LeapSecond], unix_leap_time: i64) -> usize
     requires { AreLeapSeconds leap_seconds.now }
     ensures within { result ≤ length leap_seconds.now }
     ensures up_to { (i : ℕ) (l : LeapSecond) → i < result → slice_get leap_seconds.now i ≡ Some l

@@ -37,7 +37,7 @@ impl Model for LeapSecond {
 impl LeapSecond {
     /// The leap second at this leap time, from which on leap time is ahead of Unix time by this
     /// correction.
-    pub fn new(unix_leap_time: i64, correction: i32) -> Self
+    pub const fn new(unix_leap_time: i64, correction: i32) -> Self
         ensures { result ≡ record { unix_leap_time = unix_leap_time; correction = correction } }
     {
         LeapSecond {
@@ -47,14 +47,14 @@ impl LeapSecond {
     }
 
     /// The leap time at which the correction begins.
-    pub fn unix_leap_time(&self) -> i64
+    pub const fn unix_leap_time(&self) -> i64
         ensures { result ≡ self.now.unix_leap_time }
     {
         self.unix_leap_time
     }
 
     /// The seconds by which leap time is ahead of Unix time from then on.
-    pub fn correction(&self) -> i32
+    pub const fn correction(&self) -> i32
         ensures { result ≡ self.now.correction }
     {
         self.correction
@@ -62,7 +62,7 @@ impl LeapSecond {
 }
 
 /// Whether a leap second may come first.
-fn may_be_first(leap_second: LeapSecond) -> bool
+const fn may_be_first(leap_second: LeapSecond) -> bool
     ensures { MatchBool result (MayBeFirst leap_second) (¬ MayBeFirst leap_second) }
 {
     leap_second.unix_leap_time() >= 0

@@ -108,7 +108,7 @@ enum TimeSize {
 
 impl TimeSize {
     /// How many bytes one time has.
-    fn len(self) -> usize
+    const fn len(self) -> usize
         ensures value { result ≡ byte_len (width_of self) }
         ensures small { result ≤ 8 }
     {

@@ -217,7 +217,7 @@ impl WrittenTime {
     ghost use Rattle.tz_zone.specs.TzText.{IsTimeUpTo, seconds_of};
 
     /// The time in seconds, less than a week either way.
-    fn total_seconds(self) -> i32
+    const fn total_seconds(self) -> i32
         requires { IsTimeUpTo 167 self }
         ensures { result ≡ seconds_of self }
     {
@@ -232,7 +232,7 @@ impl WrittenTime {
 
     /// The offset from UTC in seconds. In a string its sign is the opposite: west of Greenwich is
     /// positive.
-    fn ut_offset(self) -> i32
+    const fn ut_offset(self) -> i32
         requires { IsTimeUpTo offset_hours self }
         ensures value { result ≡ ut_offset_of self }
         ensures range { IsRuleOffset result }

@@ -186,7 +186,7 @@ impl<'a> TimeZoneRef<'a> {
     ///     Ok(changes)
     /// }
     /// ```
-    pub fn changes_after(&self, unix_time: i64) -> ChangesAfter<'a>
+    pub const fn changes_after(&self, unix_time: i64) -> ChangesAfter<'a>
         ensures { position_after result ≡ record {
           zone = zone_of self.now;
           unix_time = unix_time;
@@ -212,7 +212,7 @@ impl<'a> TimeZoneRef<'a> {
     ///     None
     /// }
     /// ```
-    pub fn changes_before(&self, unix_time: i64) -> ChangesBefore<'a>
+    pub const fn changes_before(&self, unix_time: i64) -> ChangesBefore<'a>
         ensures { position_before result ≡ record {
           zone = zone_of self.now;
           unix_time = unix_time;
@@ -293,7 +293,7 @@ impl<'a> ChangesAfter<'a> {
     ghost use Rattle.tz_zone.specs.ZoneRef.{zone_of};
 
     /// The changes of a zone's clock after an instant.
-    pub(crate) fn new(zone: TimeZoneRef<'a>, unix_time: i64) -> Self
+    pub(crate) const fn new(zone: TimeZoneRef<'a>, unix_time: i64) -> Self
         ensures { position_after result ≡ record {
           zone = zone_of zone.entry;
           unix_time = unix_time;
@@ -344,7 +344,7 @@ impl<'a> ChangesBefore<'a> {
     ghost use Rattle.tz_zone.specs.ZoneRef.{zone_of};
 
     /// The changes of a zone's clock before an instant.
-    pub(crate) fn new(zone: TimeZoneRef<'a>, unix_time: i64) -> Self
+    pub(crate) const fn new(zone: TimeZoneRef<'a>, unix_time: i64) -> Self
         ensures { position_before result ≡ record {
           zone = zone_of zone.entry;
           unix_time = unix_time;

@@ -88,7 +88,7 @@ impl<'a, F: Fn(&str) -> Result<Vec<u8>, ReadFault>> TimeZoneSettings<'a, F> {
     ghost use Rattle.tz_zone.specs.ZoneNames.{IsCallableAt, IsPathOfName, IsZoneNameAnswer};
 
     /// The settings with these directories, and with this function that reads a file.
-    pub fn new(directories: &'a [&'a str], reader: F) -> Self
+    pub const fn new(directories: &'a [&'a str], reader: F) -> Self
         ensures directories { directories_of result ≡ texts_of directories.now }
         ensures reader { reader_of result ≡ reader }
     {

@@ -16,7 +16,7 @@ use tz_base::error::{TimeZoneError, TzError};
 use tz_rule::inner::RuleRef;
 
 /// Whether the type index of the transition at an index is below `types`, the number of types.
-fn has_type_at(transitions: &[Transition], types: usize, index: usize) -> bool
+const fn has_type_at(transitions: &[Transition], types: usize, index: usize) -> bool
     requires { index < length transitions.now }
     ensures { MatchBool result (HasTypeAtIndex transitions.now types index)
         (¬ HasTypeAtIndex transitions.now types index) }
@@ -25,7 +25,7 @@ fn has_type_at(transitions: &[Transition], types: usize, index: usize) -> bool
 }
 
 /// Whether the transition at an index comes before the next one.
-fn rises_at(transitions: &[Transition], index: usize) -> bool
+const fn rises_at(transitions: &[Transition], index: usize) -> bool
     requires { index < length transitions.now }
     ensures { MatchBool result (RisesAtIndex transitions.now index)
         (¬ RisesAtIndex transitions.now index) }

@@ -46,7 +46,7 @@ pub struct ZoneData<'a> {
 
 /// Lends a rule, if there is one.
 #[inline(always)]
-pub(super) fn lent(extra_rule: &Option<TransitionRule>) -> Option<RuleRef<'_>>
+pub(super) const fn lent(extra_rule: &Option<TransitionRule>) -> Option<RuleRef<'_>>
     ensures { lent_rule result ≡ extra_rule.now }
 {
     match extra_rule {
@@ -125,7 +125,7 @@ impl<'a> ZoneData<'a> {
 
     /// The zone with parts that are known to make one, and with its least and its greatest offset.
     #[inline(always)]
-    pub fn from_valid_parts(
+    pub const fn from_valid_parts(
         transitions: &'a [Transition],
         local_time_types: &'a [LocalTimeType],
         leap_seconds: &'a [LeapSecond],
@@ -155,7 +155,7 @@ impl<'a> ZoneData<'a> {
 
     /// The transitions, in order.
     #[inline(always)]
-    pub fn transitions(&self) -> &'a [Transition]
+    pub const fn transitions(&self) -> &'a [Transition]
         ensures { result.now ≡ (zone_of_data self.now).transitions }
     {
         self.transitions
@@ -163,7 +163,7 @@ impl<'a> ZoneData<'a> {
 
     /// The local time types, which the transitions name by their numbers.
     #[inline(always)]
-    pub fn local_time_types(&self) -> &'a [LocalTimeType]
+    pub const fn local_time_types(&self) -> &'a [LocalTimeType]
         ensures { result.now ≡ (zone_of_data self.now).types }
     {
         self.local_time_types
@@ -171,7 +171,7 @@ impl<'a> ZoneData<'a> {
 
     /// The leap seconds, in order.
     #[inline(always)]
-    pub fn leap_seconds(&self) -> &'a [LeapSecond]
+    pub const fn leap_seconds(&self) -> &'a [LeapSecond]
         ensures { result.now ≡ (zone_of_data self.now).leap_seconds }
     {
         self.leap_seconds
@@ -187,7 +187,7 @@ impl<'a> ZoneData<'a> {
 
     /// The least and the greatest offset of the types and of the rule.
     #[inline(always)]
-    pub fn offsets(&self) -> (i32, i32)
+    pub const fn offsets(&self) -> (i32, i32)
         ensures { AreEndOffsets (zone_of_data self.now) result.0 result.1 }
     {
         (self.least_offset, self.greatest_offset)

@@ -115,7 +115,7 @@ impl<'a> TimeZoneRef<'a> {
     }
 
     /// The zone with parts that are known to make one, and with its least and its greatest offset.
-    pub(crate) fn from_valid_parts(
+    pub(crate) const fn from_valid_parts(
         transitions: &'a [Transition],
         local_time_types: &'a [LocalTimeType],
         leap_seconds: &'a [LeapSecond],
@@ -161,21 +161,21 @@ impl<'a> TimeZoneRef<'a> {
     }
 
     /// The transitions, in order.
-    pub fn transitions(&self) -> &'a [Transition]
+    pub const fn transitions(&self) -> &'a [Transition]
         ensures { result.now ≡ (zone_of self.now).transitions }
     {
         self.plain.transitions
     }
 
     /// The local time types, which the transitions name by their numbers.
-    pub fn local_time_types(&self) -> &'a [LocalTimeType]
+    pub const fn local_time_types(&self) -> &'a [LocalTimeType]
         ensures { result.now ≡ (zone_of self.now).types }
     {
         self.plain.local_time_types
     }
 
     /// The leap seconds, in order.
-    pub fn leap_seconds(&self) -> &'a [LeapSecond]
+    pub const fn leap_seconds(&self) -> &'a [LeapSecond]
         ensures { result.now ≡ (zone_of self.now).leap_seconds }
     {
         self.plain.leap_seconds
@@ -192,7 +192,7 @@ impl<'a> TimeZoneRef<'a> {
     }
 
     /// The rule from the last transition on.
-    pub fn extra_rule(&self) -> &'a Option<TransitionRule>
+    pub const fn extra_rule(&self) -> &'a Option<TransitionRule>
         ensures { result.now ≡ (zone_of self.now).extra_rule }
     {
         self.extra_rule

@@ -3,8 +3,7 @@
 //! search for them, date times as plain data, and how bytes are read.
 
 pub use crate::proved::tz::datetime::date_time::{DateTimeData, FoundData, UtcData, fields_of};
-pub use crate::proved::tz::datetime::disambiguation::find_one;
-pub use crate::proved::tz::datetime::ends::{Ends, FewEntries, ends_by_types};
+pub use crate::proved::tz::datetime::disambiguation::{Ends, FewEntries, ends_by_types, find_one};
 pub use crate::proved::tz::datetime::find::find_fields;
 pub use crate::proved::tz::datetime::gaps_and_folds::{types_of_window, window_of};
 pub use crate::proved::tz::datetime::zone_data_searches::{find_into, from_timespec};

@@ -3,7 +3,6 @@
 
 pub(crate) mod date_time;
 pub(crate) mod disambiguation;
-pub(crate) mod ends;
 pub(crate) mod entry_takers;
 pub(crate) mod find;
 mod found;

@@ -2,7 +2,7 @@
 //! Date times and searches in zones of plain data.
 
 use super::date_time::FoundData;
-use super::ends::meant_in;
+use super::disambiguation::meant_in;
 use super::entry_takers::SlotWriter;
 use super::gaps_and_folds::search;
 use super::{DateTime, Disambiguation};

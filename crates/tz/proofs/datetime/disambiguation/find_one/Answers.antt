@@ -8,7 +8,7 @@ use Rattle.tz_zone.specs.Clock.{IsClock}
 use Rattle.tz_zone.specs.ZoneOfData.{zone_of_data}
 use Rattle.tz.specs.Ends.{entry_meant, entry_of}
 use Rattle.tz.specs.Entries.{Jump, Shown}
-use Rattle.tz.specs.declared.datetime.ends.Entry.{Entry as LentEntry}
+use Rattle.tz.specs.declared.datetime.disambiguation.Entry.{Entry as LentEntry}
 use Rattle.tz.proofs.Ends.{each_made, jump_fault, jump_meant, none_meant, outside_refused, shown_meant}
 use Rattle.tz.proofs.datetime.disambiguation.find_one.Goals as goal
 

@@ -5,7 +5,7 @@ use Rattle.std.proofs.lemmas.List.Elements.{All-cons, All-nil}
 use mir.Syntax.{w64}
 use Rattle.tz.specs.Entries.{Shown, IsEntryInside}
 use Rattle.tz.proofs.Ends.{with_shown}
-use Rattle.tz.proofs.datetime.ends.EndsEntryTaker.shown.Goals as goal
+use Rattle.tz.proofs.datetime.disambiguation.EndsEntryTaker.shown.Goals as goal
 
 pub returns-clause-ok : goal.returns-clause-ok
 returns-clause-ok c =

@@ -8,10 +8,10 @@ use Rattle.tz.specs.Ends.{entry_of}
 use Rattle.tz.specs.Entries.{Entry, Shown, Jump, IsEntryInside}
 use Rattle.tz.proofs.ChangeEntries.{both, first_alone, from_since, jump_alone, second_alone, skipped}
 use Rattle.tz.proofs.Ends.{one_shown_meant}
-use Rattle.tz.proofs.datetime.ends.meant_around.Goals as goal
-use Rattle.tz.proofs.datetime.ends.meant_around.Goals.{in-Compatible, in-Earlier, in-Later, in-Reject}
-use Rattle.tz.proofs.datetime.ends.meant_around.Goals.{in-Compatible-disambiguation, in-Earlier-disambiguation}
-use Rattle.tz.proofs.datetime.ends.meant_around.Goals.{in-Later-disambiguation, in-Reject-disambiguation}
+use Rattle.tz.proofs.datetime.disambiguation.meant_around.Goals as goal
+use Rattle.tz.proofs.datetime.disambiguation.meant_around.Goals.{in-Compatible, in-Earlier, in-Later, in-Reject}
+use Rattle.tz.proofs.datetime.disambiguation.meant_around.Goals.{in-Compatible-disambiguation, in-Earlier-disambiguation}
+use Rattle.tz.proofs.datetime.disambiguation.meant_around.Goals.{in-Later-disambiguation, in-Reject-disambiguation}
 
 pub returns-in_err-jump-clause-err : goal.returns-in_err-jump-clause-err
 returns-in_err-jump-clause-err c =

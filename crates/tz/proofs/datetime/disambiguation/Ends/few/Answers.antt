@@ -3,7 +3,7 @@ use Rattle.std.proofs.Common.{List, sym, subst}
 use Rattle.tz.specs.Ends.{IsFew}
 use Rattle.tz.specs.Entries.{Entry}
 use Rattle.tz.proofs.Ends.{none_of, none_of_last, one_of, two_of}
-use Rattle.tz.proofs.datetime.ends.Ends.few.Goals as goal
+use Rattle.tz.proofs.datetime.disambiguation.Ends.few.Goals as goal
 
 pub returns-in_default : goal.returns-in_default
 returns-in_default c es are = none_of es c.args.self.now are c.in_default.is

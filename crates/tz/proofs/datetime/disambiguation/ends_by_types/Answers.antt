@@ -3,7 +3,7 @@ use Rattle.std.proofs.Common.{◌∙◌, [], refl, arith}
 use Rattle.std.proofs.lemmas.Int.{to_z-of_z}
 use mir.Syntax.{w64}
 use Rattle.tz.proofs.Ends.{takes_all}
-use Rattle.tz.proofs.datetime.ends.ends_by_walk.Goals as goal
+use Rattle.tz.proofs.datetime.disambiguation.ends_by_types.Goals as goal
 
 pub give_in_window-requires : goal.give_in_window-requires
 give_in_window-requires c κs =

@@ -8,7 +8,7 @@ use Rattle.tz_zone.specs.ZoneOfData.{zone_of_data}
 use Rattle.tz.specs.Entries.{HasTwoTypes, IsEntryInside, Shown}
 use Rattle.tz.proofs.Ends.{one_shown_meant}
 use Rattle.tz.proofs.EntryWalks.{entries_once}
-use Rattle.tz.proofs.datetime.ends.meant_in.Goals as goal
+use Rattle.tz.proofs.datetime.disambiguation.meant_in.Goals as goal
 
 pub returns-in-One-clause-ok : goal.returns-in-One-clause-ok
 returns-in-One-clause-ok c =
