@@ -172,7 +172,7 @@ def of_zones(versions):
         return f'Zones are those of tzdata {next(iter(named))}.'
     most = max(named, key=lambda version: len(named[version]))
     few = [f'tzdata {version} for {" and ".join(names)}' for version, names in named.items() if version != most]
-    return f'Zones are of {", ".join(few)} and tzdata {most} for the others; chrono-tz has its own.'
+    return f'Zones come from {", ".join(few)}, and from tzdata {most} for the others; chrono-tz has its own.'
 
 
 def of_versions(kept):

@@ -452,7 +452,7 @@ def _bytes_of_zone(key: str) -> Optional[bytes]:
         raise TypeError(f"a name of a zone is a str, not {type(key).__name__}")
     parts = key.split("/")
     if any(part in ("", ".", "..") for part in parts):
-        raise ValueError(f"a path is no name of a zone: {key!r}")
+        raise ValueError(f"a path is not the name of a zone: {key!r}")
     # No name has other characters, and some of these make a path, such as a backslash.
     if not all(map(_PART.fullmatch, parts)):
         return None
