@@ -18,17 +18,21 @@ SEED = 7
 
 # The instructions that some calls are meant to take at most.
 GOALS = {
-    '`DateTime::from_timespec`, fixed offset': 110, '`DateTime::from_timespec`, random, Paris': 180,
-    '`DateTime::from_timespec`, sorted, Paris': 185, '`DateTime::from_timespec`, past the table, Paris': 190,
+    '`DateTime::from_timespec`, fixed offset': 110, '`DateTime::from_timespec`, random, Paris': 150,
+    '`DateTime::from_timespec`, sorted, Paris': 150, '`DateTime::from_timespec`, past the table, Paris': 190,
     '`DateTime::from_timespec`, random, TZ string': 185, '`DateTime::from_timespec`, 100000 transitions': 250,
     '`DateTime::from_timespec`, leap seconds': 400,
-    '`DateTime::find`, random, Paris': 405, '`DateTime::find`, at jumps, Paris': 490, '`DateTime::find`, past the table, Paris': 385,
+    '`DateTime::find`, random, Paris': 345, '`DateTime::find`, at jumps, Paris': 490, '`DateTime::find`, past the table, Paris': 385,
     '`DateTime::find`, random, TZ string': 385, '`DateTime::find`, at jumps, TZ string': 455,
     '`DateTime::find`, random, 100000 transitions': 620, '`DateTime::find`, leap seconds': 1000,
-    '`DateTime::find_n`, fixed offset': 115, '`DateTime::find_n`, random, Paris': 225, '`DateTime::find_n`, at jumps, Paris': 310,
+    '`DateTime::find_n`, fixed offset': 115, '`DateTime::find_n`, random, Paris': 172, '`DateTime::find_n`, at jumps, Paris': 215,
     '`DateTime::find_n`, past the table, Paris': 205, '`DateTime::find_n`, random, TZ string': 205,
     '`DateTime::find_n`, at jumps, TZ string': 275, '`DateTime::find_n`, random, 100000 transitions': 440,
-    '`TimeZoneRef::following`, random, Paris': 200, 'next of `changes_after`, 1900 to 2100, Paris': 120,
+    '`TimeZoneRef::find_local_time_type`, random, Paris': 140,
+    '`DateTime::find_one`, random, Paris': 160, '`DateTime::find_one`, at jumps, Paris': 200,
+    '`DateTime::meaning`, random, Paris': 165, '`DateTime::from_local`, random, Paris': 175,
+    '`TimeZoneRef::following`, random, Paris': 95, 'next of `changes_after`, 1900 to 2100, Paris': 108,
+    'next of `changes_before`, 2100 to 1900, Paris': 128,
     '`UtcDateTime::new` and `unix_time`': 60, '`UtcDateTime::checked_add` and `unix_time`': 100,
     '`TimeZone::from_tz_data`, Paris': 8000, '`TimeZone::from_tz_data`, 100000 transitions': 2500000,
     '`TimeZone::from_posix_tz`, failing reader, TZ string': 2600,
@@ -215,6 +219,7 @@ def calls(zones, count, seed=SEED):
     yield row('`DateTime::from_timespec`, random, TZ string', 'from_timespec', text, 'instants')
     yield row('`DateTime::from_timespec`, 100000 transitions', 'from_timespec', many, 'instants')
     yield row('`DateTime::from_timespec`, leap seconds', 'from_timespec', leaps, 'instants')
+    yield row('`TimeZoneRef::find_local_time_type`, random, Paris', 'find_local_time_type', paris, 'instants')
     for call in ('find', 'find_n'):
         shown = f'`DateTime::{call}`'
         yield row(f'{shown}, fixed offset', call, fixed, 'local times')

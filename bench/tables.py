@@ -114,22 +114,23 @@ def multiple(figure):
 
 
 def of_times(kept, reasons):
-    """Nanoseconds of the proved build in lines and of the Rust crate in calls, of each peer how many
-    times as many, and the first over the least of the peers."""
+    """Nanoseconds of tz and of the Rust crate, of each peer how many times as many as the better of
+    both, and that over the least of the peers."""
     lines = []
-    for section, program in zip(('times of lines', 'times of calls'), OWN):
+    for section in ('times of lines', 'times of calls'):
         for name, row in kept.rows(section).items():
-            if program not in row or best_of(row) is None:
+            own = [row[program] for program in OWN if program in row]
+            if not own or best_of(row) is None:
                 continue
-            own = row[program]
+            least = min(own)
             differing = kept.rows(f'differing {section}').get(name, {})
-            cells = [f'{own:.1f}']
+            cells = [f'{row[program]:.1f}' if program in row else '–' for program in OWN]
             for peer in PEERS:
                 star = STAR * (peer in differing)
-                cells.append(f'{multiple(row[peer] / own)}{star}' if peer in row else '–')
-            letters = reasons.of(f'time of {name}', {**row, 'tz': own})
-            lines.append([name, *cells, f'{over_best(row, program)}{letters}'])
-    return table(['row', 'tz, ns', *PEERS, 'tz / best'], lines)
+                cells.append(f'{multiple(row[peer] / least)}{star}' if peer in row else '–')
+            letters = reasons.of(f'time of {name}', {**row, 'tz': least})
+            lines.append([name, *cells, f'{least / best_of(row):.2f}{letters}'])
+    return table(['row', 'tz, ns', 'through Rust, ns', *PEERS, 'tz / best'], lines)
 
 
 def days_of(names, kept):
