@@ -227,7 +227,19 @@ fn local_time_has_its_file(rt: HostRuntime) -> Result<(), Fail> {
 /etc/localtime memory | localtime | no memory | 1
 ";
     let alloc = rt.alloc();
+    static REFUSED: [(&str, &str); 2] = [
+        (
+            "/etc/localtime cut",
+            "invalid TZ file: unexpected end of data",
+        ),
+        ("/etc/localtime none", "no file"),
+    ];
     expect_answers(&rt, alloc, Directories::Three, ROWS)?;
+    for (text, refusal) in &REFUSED {
+        let files = files_of(alloc, text);
+        expect_text(&rt, alloc, text, files.ask_local(), refusal)?;
+        expect_eq_at(&rt, text, &files.asked.get(), &1);
+    }
     let files = files_of(alloc, "/etc/localtime UTC");
     expect_text(&rt, alloc, "local", files.ask_local(), "0 UTC")?;
     let settings = TimeZoneSettings::new(DEFAULT_DIRECTORIES, |path: &str| files.read(path));

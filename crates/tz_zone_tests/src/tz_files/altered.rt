@@ -92,13 +92,34 @@ fn altered_bytes_are_refused(rt: HostRuntime) -> Result<(), Fail> {
     Ok(())
 }
 
+/// One list of indicators may stand without the other one, whose indicators then count as 0. (RFC
+/// 8536, sections 3.1 and 3.2)
+#[test]
+fn one_list_of_indicators(rt: HostRuntime) -> Result<(), Fail> {
+    // The position of a count that is set to 0, the indicator that is left, and the fault.
+    static ROWS: [(usize, u8, Option<Fault>); 3] = [
+        (23, 1, None),
+        (27, 0, None),
+        (27, 1, Some(Fault::File(InvalidStdWallUtLocal))),
+    ];
+    let bytes = utc_v1_leap(rt.alloc())?;
+    for (position, indicator, expected) in &ROWS {
+        let mut one = with_byte(rt.alloc(), &bytes, *position, 0)?;
+        one.truncate(270);
+        one.push(*indicator)?;
+        expect_eq_at(&rt, position, &fault_of(rt.alloc(), &one), expected);
+    }
+    Ok(())
+}
+
 #[test]
 fn altered_leap_seconds_are_refused(rt: HostRuntime) -> Result<(), Fail> {
-    // The first time is negative, the first correction is 2, a time of UT goes with no standard
-    // time; one that goes with it is accepted.
-    static ROWS: [Alteration; 5] = [
+    // The first time is negative, the first correction is 2, the last one expires the table before
+    // version 4, a time of UT goes with no standard time; one that goes with it is accepted.
+    static ROWS: [Alteration; 6] = [
         (54, 0x80, Some(Fault::Zone(InvalidLeapSecond))),
         (61, 2, Some(Fault::Zone(InvalidLeapSecond))),
+        (269, 26, Some(Fault::Zone(InvalidLeapSecond))),
         (271, 1, Some(Fault::File(InvalidStdWallUtLocal))),
         (270, 2, Some(Fault::File(InvalidStdWallUtLocal))),
         (270, 1, None),

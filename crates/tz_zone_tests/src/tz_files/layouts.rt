@@ -37,6 +37,15 @@ static FAT: Unit<'static> = Unit {
     indicators: &[0, 1, 1],
 };
 
+/// The least first block, as `zic -b slim` writes it.
+static LEAST: Unit<'static> = Unit {
+    transitions: &[],
+    types: &[(0, 0, 0)],
+    names: b"\0",
+    leap_seconds: &[],
+    indicators: &[],
+};
+
 /// The transitions of Great Britain from 1972 to 1974, whose times count leap seconds.
 const LEAPING_TRANSITIONS: &[(i64, usize)] = &[
     (utc!(1972-03-19 02:00:00), 1),
@@ -172,6 +181,8 @@ fn a_fat_file_is_read(rt: HostRuntime) -> Result<(), Fail> {
     ];
     let bytes = file(rt.alloc(), &FAT, &FAT, b"\nCET-1CEST,M3.5.0,M10.5.0/3\n")?;
     let zone = TimeZone::from_tz_data(rt.alloc(), &bytes)?;
+    let slim = file(rt.alloc(), &LEAST, &FAT, b"\nCET-1CEST,M3.5.0,M10.5.0/3\n")?;
+    assert!(rt; TimeZone::from_tz_data(rt.alloc(), &slim)? == zone);
     let rule = TransitionRule::Alternate(central_europe()?);
     assert!(rt; zone == zone_with_rule(rt.alloc(), &FAT_ZONE, Some(rule))?);
     expect_offsets(&rt, &zone, &OFFSETS)

@@ -219,7 +219,13 @@ fn texts_near_ordinary_ones(rt: HostRuntime) -> Result<(), Fail> {
     expect_refusals(&rt, rt.alloc(), ORDINARY_REFUSED, false)
 }
 
+/// A time of day with a plus, as tz-rs reads it.
+static PLUS: &str = "\
+<-03>3<-02>,M3.5.0/+2,M10.5.0/-1 | -03 -10800, -02 -7200, M3.5.0 7200, M10.5.0 -3600
+";
+
 #[test]
 fn texts_near_extended_ones(rt: HostRuntime) -> Result<(), Fail> {
+    expect_rules(&rt, rt.alloc(), PLUS, true)?;
     expect_refusals(&rt, rt.alloc(), EXTENDED_REFUSED, true)
 }
