@@ -78,9 +78,9 @@ def of_a_line(program, arguments, row):
 
 
 def program_of(program, call):
-    """The program that makes a call: the one beside it, if there is one, for the calls that are apart."""
-    apart = f'{program}_apart'
-    return apart if call in rows.APART_CALLS and os.path.exists(apart) else program
+    """The program that makes a call: one beside it, if there is one, for the calls that are apart or alone."""
+    beside = f'{program}_apart' if call in rows.APART_CALLS else f'{program}_{call}' if call in rows.ALONE_CALLS else program
+    return beside if os.path.exists(beside) else program
 
 
 def of_calls(program, arguments, row):

@@ -44,8 +44,12 @@ GOALS = {
 APART = ('`DateTime::from_timespec`, fixed offset', '`DateTime::find_n`, fixed offset', '`TimeZoneRef::following`, rule without a change')
 
 
-# Calls that make a function which another call makes too, so that the compiler would keep it out of line for both: a program of its own makes them.
+# Calls that make a function which another call makes too, so that the compiler would keep it out of line for both: a program of its own makes them,
+# or one for each.
 APART_CALLS = ('meaning', 'kept_segment', 'parse', 'find_local_time_type')
+ALONE_CALLS = ('from_local',)
+# What that of ALONE_CALLS lacks of the others.
+SHARED_CALLS = ('find_one',)
 
 
 # Calls over whole columns, which the bindings alone have, and the call of tz whose answers those of each place are, if there is one.
