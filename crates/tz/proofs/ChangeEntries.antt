@@ -1,11 +1,5 @@
 -- What a reading has where the clock has one type up to a change, and another from there on.
-use Rattle.std.proofs.Common.{◌≡◌, [], ◌∷◌, inl, inr, refl, arith, ℤ, pos, ◌-ℤ◌, ◌≤ℤ◌, ◌<ℤ◌, Some, None}
-use Rattle.std.proofs.lemmas.Int.{ints, by_lt_z}
-use Rattle.tz_rule.specs.LocalTimeType.{LocalTimeType}
-use Rattle.tz_zone.specs.Clock.{IsClock}
-use Rattle.tz_zone.specs.Table.{Zone}
-use Rattle.tz.specs.Entries.{Entry, Shown, Jump, AreEntries, HasTwoTypes, IsEntryIn, IsEntryOf}
-use Rattle.tz.specs.Found.{IsJumpOver}
+use Rattle.tz.proofs.Common.{arith, refl, ◌≡◌, ints, inr, inl, [], ◌∷◌, pos, ℤ, IsClock, Some, Zone, ◌-ℤ◌, ◌<ℤ◌, ◌≤ℤ◌, None, LocalTimeType, Shown, Jump, Entry, HasTwoTypes, IsEntryIn, by_lt_z, AreEntries, IsEntryOf, IsJumpOver}
 use Rattle.tz.proofs.EntryWalks.{entries_around, first_in, from_low, given_shown, none_beside, none_late, second_in, up_to_high}
 
 module _ {r since : ℤ} (a b : LocalTimeType) {u v : ℤ} (at_u : u ≡ r -ℤ a.ut_offset) (at_v : v ≡ r -ℤ b.ut_offset) where

@@ -1,16 +1,8 @@
 -- Each reading has civil fields.
-use Rattle.std.proofs.Common.{◌≡◌, ℕ, ◌+◌, ◌-◌, ◌*◌, ◌/◌, ◌%◌, ◌<◌, ◌≤◌, inl, inr, refl, sym, ap, ◌∙◌, subst, arith, ℤ, pos, negsuc, ◌+ℤ◌, ◌-ℤ◌}
-use Rattle.std.proofs.lemmas.Int.{ints}
-use Rattle.std.proofs.lemmas.Bool.{cases_lt}
+use Rattle.tz.proofs.Common.{arith, refl, ◌≡◌, subst, ◌∙◌, ints, inr, sym, inl, ap, ℕ, ◌<◌, ◌+◌, pos, ℤ, Fields, ◌≤◌, ◌-ℤ◌, ◌*◌, ◌+ℤ◌, ◌-◌, ◌%◌, ◌/◌, negsuc, cases_lt, is_leap, month_length, month_length-le, IsCivil, IsDateOf, civil_from_parts, day_number-is, first_day, first_day-period, is_leap-period, months_length}
 use Rattle.tz_base.specs.Cycles.{days_of_march_years, march_month, march_month_day}
-use Rattle.tz_base.specs.Days.{is_leap, month_length, months_length, first_day, IsDateOf}
-use Rattle.tz_base.specs.Fields.{IsCivil}
-use Rattle.tz_base.specs.declared.fields.Fields.{Fields}
 use Rattle.tz_base.proofs.MarchYears.{year_of_century_bound, march_year_is, last_day_is_leap}
 use Rattle.tz_base.proofs.DatesOfDays.{date_before_january, date_from_january}
-use Rattle.tz_base.proofs.DaysOfYears.{day_number-is}
-use Rattle.tz_base.proofs.CivilReadings.{civil_from_parts, month_length-le}
-use Rattle.tz_base.proofs.DateOrder.{is_leap-period, first_day-period}
 
 -- the century of a day that is counted from a March 1st, and its day and its year in that century
 abbrev century : ℕ → ℕ

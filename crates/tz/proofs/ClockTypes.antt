@@ -1,13 +1,5 @@
 -- The types that a clock has are those of the list and of the rule.
-use Rattle.std.proofs.Common.{◌≡◌, ◌⊎◌, inl, inr, refl, ℕ, ℤ, ◌≤ℤ◌, Option, Some, None}
-use Rattle.tz_rule.specs.LocalTimeType.{LocalTimeType}
-use Rattle.tz_rule.specs.Rule.{IsRuleType}
-use Rattle.tz_rule.specs.declared.timezone.transition_rule.TransitionRule.{TransitionRule}
-use Rattle.tz_rule.specs.declared.timezone.transition_rule.TransitionRule.TheVariants.{Fixed, Alternate}
-use Rattle.tz_rule.specs.Alternate.{AlternateTime}
-use Rattle.tz_zone.specs.Table.{Zone}
-use Rattle.tz_zone.specs.Clock.{IsTypeAt, IsTypeAfter, IsTypeWithout, IsClock}
-use Rattle.tz.specs.Reached.{AreOffsetsOf}
+use Rattle.tz.proofs.Common.{refl, ◌≡◌, inr, inl, ℕ, ℤ, IsClock, Some, Zone, ◌≤ℤ◌, None, Option, LocalTimeType, ◌⊎◌, Fixed, TransitionRule, Alternate, AreOffsetsOf, IsRuleType, AlternateTime, IsTypeAfter, IsTypeAt, IsTypeWithout}
 
 -- the type of a rule is the fixed one, or one of the two
 pub fixed_type : (fixed : LocalTimeType) (u : ℤ) (t : LocalTimeType) → IsRuleType (Fixed fixed) u t → t ≡ fixed

@@ -1,9 +1,6 @@
 -- What a comparison by one part and then by another says.
-use Rattle.std.proofs.Common.{◌≡◌, ◌<◌, ◌<ℤ◌, ◌⊎◌, ℕ, ℤ, inl, inr}
-use Rattle.std.specs.Cmp.{int_ranks, ranks}
-use Rattle.std.specs.declared.cmp.Ordering.{Ordering}
+use Rattle.tz.proofs.Common.{◌≡◌, inr, inl, ℕ, ◌<◌, ℤ, ◌<ℤ◌, ◌⊎◌, Ordering, int_cmp, nat_cmp, ordering_then, MatchOrdering, int_ranks, ranks}
 use Rattle.std.specs.declared.cmp.Ordering.TheVariants as order
-use Rattle.std.specs.Ordering.{MatchOrdering, ordering_then, int_cmp, nat_cmp}
 
 -- what holds at `Less`, at `Equal` and at `Greater`
 pub record Ranked (r : Ordering) (L E G : Type 0) : Type 0 where

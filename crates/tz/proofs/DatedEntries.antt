@@ -1,20 +1,6 @@
 -- The date times of all entries of a reading are all that is found of fields with it.
-use Rattle.std.proofs.Common.{◌≡◌, ℕ, zero, suc, ◌<◌, ◌∙◌, inl, inr, refl, sym, ap, subst, arith, ℤ, pos, ◌+ℤ◌, List, [], ◌∷◌, length, get_or}
-use Rattle.std.specs.List.{AllZip}
-use Rattle.std.proofs.lemmas.Int.{ints}
-use Rattle.std.proofs.lemmas.Slice.Zip.{AllZip-long}
-use Rattle.tz_base.specs.declared.fields.Fields.{Fields}
-use Rattle.tz_base.specs.declared.error.TzError.{TzError}
-use Rattle.tz_base.specs.Fields.{IsReading, IsValid, reading}
-use Rattle.tz_base.proofs.DateOrder.{civil_unique}
-use Rattle.tz_rule.specs.LocalTimeType.{LocalTimeType}
-use Rattle.tz.specs.DateTimes.{DateTime, ShowsInstant, moment_of}
-use Rattle.tz.specs.Entries.{Entry, Shown, Jump, AreEntries, IsEntryIn, IsEntryOutside, IsRefused, instant_of as entry_instant}
-use Rattle.tz.specs.EntryDateTimes.{IsDatedFault, IsDateTimeOf, IsMadeOf}
-use Rattle.tz.specs.FindFaults.{IsSearchFault}
-use Rattle.tz.specs.Found.{Clock, PassesOver, IsFoundBy, IsFound, EachCanBeMade, OneCannotBeMade, first_side, instant_of}
-use Rattle.tz.specs.declared.datetime.found.FoundDateTimeKind.{FoundDateTimeKind}
-use Rattle.tz.specs.declared.datetime.found.FoundDateTimeKind.TheVariants.{Normal, Skipped}
+use Rattle.tz.proofs.Common.{arith, refl, ◌≡◌, subst, ◌∙◌, ints, inr, sym, inl, [], ap, ℕ, ◌∷◌, ◌<◌, List, length, pos, ℤ, Fields, suc, zero, ◌+ℤ◌, IsValid, LocalTimeType, reading, Shown, get_or, Jump, Normal, Entry, FoundDateTimeKind, Clock, DateTime, EachCanBeMade, IsReading, Skipped, TzError, IsFound, IsEntryIn, IsFoundBy, AreEntries, PassesOver, ShowsInstant, moment_of, AllZip, AllZip-long, IsMadeOf, IsRefused, IsSearchFault, civil_unique, instant_of, IsDateTimeOf, IsDatedFault, IsEntryOutside, OneCannotBeMade, first_side}
+use Rattle.tz.specs.Entries.{instant_of as entry_instant}
 use Rattle.tz.proofs.CivilFields.{civil_exists}
 use Rattle.tz.proofs.UniqueLists.{each_from_list}
 

@@ -1,5 +1,6 @@
 -- The table of pairs has the tens and the ones of each number.
-use Rattle.std.proofs.Common.{◌≡◌, ℕ, zero, suc, ◌+◌, ◌-◌, ◌*◌, ◌/◌, ◌%◌, ◌<◌, ◌≤◌, Bool, true, ◌&&◌, eqb, T, eqb→eq, get_or, inl, inr, eq-zero-or-pos, arith, refl, ap, ◌∙◌, List, [], ◌∷◌, length, take, drop}
+use Rattle.tz.proofs.Common.{arith, refl, ◌≡◌, ◌∙◌, inr, inl, [], ap, ℕ, ◌∷◌, ◌<◌, List, length, ◌+◌, ◌≤◌, suc, zero, ◌*◌, ◌-◌, ◌%◌, ◌/◌, get_or, true, Bool, drop, take, T, eq-zero-or-pos, eqb, eqb→eq}
+use Rattle.std.proofs.Common.{◌&&◌}
 use lib.Ieee.Fits.{and_l, and_r}
 use Rattle.tz.specs.declared.text_buffer.TheConstants.{PAIRS}
 

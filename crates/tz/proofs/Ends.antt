@@ -1,37 +1,11 @@
 -- Entries that are all inside the years of 32 bits have a list of date times, and its ends are those of the entries.
-use Rattle.std.proofs.Common.{◌≡◌, ℕ, zero, suc, ◌-◌, ◌<◌, ◌∙◌, inr, refl, sym, ap, subst, arith, ℤ, ◌+ℤ◌}
-use Rattle.std.proofs.Common.{◌-ℤ◌, List, [], ◌∷◌, ◌++◌, Option, Some, None, get_or, length, length-append}
-use Rattle.std.specs.Prelude.{⊤, option_map, slice_get}
-use Rattle.std.specs.Borrow.{Bor}
-use Rattle.std.specs.List.{All, AllZip}
-use Rattle.std.specs.Option.{option_or}
-use Rattle.std.proofs.lemmas.List.Elements.{All-head, All-tail}
-use Rattle.std.proofs.lemmas.Option.{slice_get-get_or}
-use Rattle.std.proofs.lemmas.Slice.Zip.{AllZip-long}
-use Rattle.tz_base.specs.declared.fields.Fields.{Fields}
-use Rattle.tz_base.specs.declared.error.TzError.{TzError}
-use Rattle.tz_base.specs.Fields.{IsReading, IsValid, reading}
-use Rattle.tz_rule.specs.LocalTimeType.{LocalTimeType}
-use Rattle.tz_zone.specs.Clock.{IsClock}
-use Rattle.tz_zone.specs.Table.{Zone}
-use Rattle.tz.specs.DateTimes.{DateTime, IsClockFault, ShowsByClock, ShowsInstant, moment_of}
-use Rattle.tz.specs.Ends.{AreMore, GainsInside, HasInside, IsEndsOf, IsOutsideFault, entry_meant, entry_of, first_shown}
-use Rattle.tz.specs.Ends.{first_entry, gains_more, gains_none, instant_between, last_entry}
-use Rattle.tz.specs.Entries.{Entry, Shown, Jump, IsEntryIn, IsEntryInside, IsRefused, IsTaker}
-use Rattle.tz.specs.EntryDateTimes.{IsMadeOf}
-use Rattle.tz.specs.FindFaults.{IsSearchFault}
-use Rattle.tz.specs.Found.{Clock, EachCanBeMade, IsFound, Shows}
-use Rattle.tz.specs.LocalMeanings.{HasMeaning, meaning_of}
-use Rattle.tz.specs.Meanings.{IsMeaning, IsMeaningFault, IsMeantIn, instant_meant, entry_meant as found_meant}
-use Rattle.tz.specs.Meanings.{first_shown as first_found_shown, last_entry as last_found}
-use Rattle.tz.specs.declared.datetime.disambiguation.Disambiguation.{Disambiguation}
-use Rattle.tz.specs.declared.datetime.disambiguation.Disambiguation.TheVariants.{Compatible, Earlier, Later, Reject}
+use Rattle.tz.proofs.Common.{arith, refl, ◌≡◌, subst, ◌∙◌, inr, sym, [], ap, ℕ, ◌∷◌, ◌<◌, List, length, ℤ, Fields, IsClock, Some, Zone, ◌++◌, suc, ◌-ℤ◌, zero, ◌+ℤ◌, ◌-◌, IsValid, None, Option, LocalTimeType, reading, Shown, get_or, Jump, Normal, Entry, FoundDateTimeKind, length-append, Clock, DateTime, EachCanBeMade, IsReading, Skipped, TzError, IsEntryInside, IsFound, IsEntryIn, ShowsByClock, All, Disambiguation, HasMeaning, IsClockFault, IsMeaning, IsMeantIn, More, ShowsInstant, entry_of, instant_meant, moment_of, ⊤, AllZip, AllZip-long, Bor, Compatible, Earlier, IsMadeOf, IsMeaningFault, IsRefused, IsSearchFault, Later, Nothing, Once, Reject, Shows, Twice, meaning_of, option_map, option_or, slice_get, slice_get-get_or, All-head, All-tail, AreMore, GainsInside, HasInside, IsEndsOf, IsOutsideFault, IsTaker, first_entry, gains_more, gains_none, instant_between}
+use Rattle.tz.specs.Ends.{entry_meant, first_shown, last_entry}
+use Rattle.tz.specs.Meanings.{entry_meant as found_meant, first_shown as first_found_shown, last_entry as last_found}
 use Rattle.tz.specs.declared.datetime.disambiguation.Ends.{Ends}
 use Rattle.tz.specs.declared.datetime.disambiguation.Entry.{Entry as LentEntry}
 use Rattle.tz.specs.declared.datetime.disambiguation.Entry.TheVariants as lent
-use Rattle.tz.specs.declared.datetime.found.FoundDateTimeKind.{FoundDateTimeKind}
-use Rattle.tz.specs.declared.datetime.found.FoundDateTimeKind.TheVariants.{Normal, Skipped}
-use Rattle.tz.specs.declared.datetime.disambiguation.Meaning.TheVariants.{Nothing, Once, Twice, Skipped as Gap, More}
+use Rattle.tz.specs.declared.datetime.disambiguation.Meaning.TheVariants.{Skipped as Gap}
 use Rattle.tz.proofs.DatedEntries.{fault_from_refused, found_from_entries, made_from_entries, side_exists, side_unique}
 
 -- the ends take entries of any reading

@@ -1,20 +1,8 @@
 -- A walk past spans of time, in each of which a clock has one type or none, finds all entries of a reading in its
 -- window.
-use Rattle.std.proofs.Common.{◌≡◌, ℕ, zero, suc, ◌<◌, ◌≤◌, ◌⊎◌, ◌∙◌, inl, inr, refl, sym, ap, subst, arith, ℤ, pos, negsuc, ◌+ℤ◌, ◌-ℤ◌, ◌≤ℤ◌, ◌<ℤ◌, List, [], ◌∷◌, ◌++◌, length, get_or, append-nil, Option, Some, None}
-use Rattle.std.specs.List.{Contains}
-use Rattle.std.proofs.lemmas.Int.{ints, by_lt_z}
-use Rattle.std.proofs.lemmas.List.Elements.{All-nil, All-push, All-weaker, Contains-append_left, Contains-push}
+use Rattle.tz.proofs.Common.{arith, refl, ◌≡◌, subst, ◌∙◌, ints, inr, sym, inl, [], ap, ℕ, ◌∷◌, ◌<◌, List, length, pos, ℤ, IsClock, Some, Zone, ◌≤◌, ◌++◌, suc, ◌-ℤ◌, zero, ◌+ℤ◌, ◌<ℤ◌, ◌≤ℤ◌, None, Option, negsuc, LocalTimeType, Shown, ◌⊎◌, get_or, Jump, Entry, append-nil, Clock, All-nil, Contains, HasTwoTypes, IsEntryIn, by_lt_z, lent_type, AreEntries, PassesOver, same_Some, All-weaker, AreLeapSeconds, Bor, IsEntryOf, IsJumpOver, MatchOption, All-push, AreEntriesBefore, Contains-append_left, Contains-push, HasNoType, HoldsAt, IsEarlier, IsGiven, clock_unique, none-some}
 use Rattle.std.proofs.lemmas.List.Quantifiers.{all_pairs_push}
-use Rattle.std.proofs.lemmas.Option.{same_Some, none-some}
-use Rattle.tz_rule.specs.LocalTimeType.{LocalTimeType}
-use Rattle.std.specs.Borrow.{Bor}
-use Rattle.std.specs.Prelude.{MatchOption}
-use Rattle.tz_zone.specs.Clock.{IsClock, HasNoType}
-use Rattle.tz_zone.specs.Table.{Zone}
-use Rattle.tz_zone.specs.ValidZone.{AreLeapSeconds}
-use Rattle.tz_zone.proofs.Clocks.{clock_unique}
-use Rattle.tz.specs.Entries.{Entry, Shown, Jump, AreEntries, AreEntriesBefore, HasTwoTypes, HoldsAt, IsEarlier, IsEntryIn, IsEntryOf, IsGiven, instant_of, lent_type}
-use Rattle.tz.specs.Found.{Clock, IsJumpOver, PassesOver}
+use Rattle.tz.specs.Entries.{instant_of}
 
 -- the offsets of all types that a clock has, such as a reading's window has them
 abbrev pub AreOffsetsAround : Clock → ℤ → ℤ → ℤ → Type 0

@@ -1,14 +1,5 @@
 -- The order of fields, one after the other, is the order of their totals if the seconds are below 60.
-use Rattle.std.proofs.Common.{◌≡◌, ℕ, ◌+◌, ◌*◌, ◌<◌, ◌⊎◌, inl, inr, sym, arith, ◌<ℤ◌}
-use Rattle.std.proofs.lemmas.Int.{ints}
-use Rattle.std.specs.Cmp.{int_cmp_is}
-use Rattle.std.specs.Ordering.{ordering_then, int_cmp, nat_cmp}
-use Rattle.std.specs.declared.cmp.Ordering.{Ordering}
-use Rattle.tz_base.specs.Days.{IsEarlierDate}
-use Rattle.tz_base.specs.Fields.{IsValid, day_of}
-use Rattle.tz_base.specs.declared.fields.Fields.{Fields}
-use Rattle.tz_base.proofs.DateOrder.{day_number-mono, valid_day}
-use Rattle.tz.specs.DateTimes.{utc_total}
+use Rattle.tz.proofs.Common.{arith, ◌≡◌, ints, inr, sym, inl, ℕ, ◌<◌, ◌+◌, Fields, ◌*◌, ◌<ℤ◌, IsValid, ◌⊎◌, Ordering, day_of, int_cmp, int_cmp_is, nat_cmp, ordering_then, IsEarlierDate, day_number-mono, utc_total, valid_day}
 use Rattle.tz.proofs.ComparisonsByParts.{nat_ranked, int_ranked, then_ranked, weaker_ranks}
 
 -- the time of the day in nanoseconds

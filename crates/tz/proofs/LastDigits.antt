@@ -1,11 +1,7 @@
 -- The last digits of a number are digits, as many as are asked for, and have its value.
-use Rattle.std.proofs.Common.{◌≡◌, ℕ, zero, suc, ◌+◌, ◌/◌, ◌%◌, ◌^◌, ◌<◌, List, [], ◌∷◌, ◌++◌, length, refl, arith}
-use Rattle.std.specs.Str.Parse.{AllDigits, digits_value}
-use Rattle.std.proofs.lemmas.Int.Digits.{digits_value_push}
+use Rattle.tz.proofs.Common.{arith, refl, ◌≡◌, [], ℕ, ◌∷◌, ◌<◌, List, length, ◌+◌, ◌++◌, suc, zero, ◌%◌, ◌^◌, ◌/◌, digits_value, AllDigits, last_digits, pow-suc, digits_value_push}
 use Rattle.std.proofs.lemmas.List.{length-append}
-use Rattle.std.proofs.Math.Nat.{pow-suc}
 use Rattle.core.proofs.dec2flt.DigitsLemmas.{is_digit}
-use Rattle.tz.specs.PrintedText.{last_digits}
 
 pub last_digits_all : (width n : ℕ) → AllDigits 10 (last_digits width n)
 last_digits_all zero n = tt

@@ -1,16 +1,13 @@
 -- Steps of the proofs by hand of `find_n` and `find_n_counted`: what a lent slice ends as, and the two cases of a
 -- `Result`. The words of the logic that both take pass through here.
-use Rattle.std.proofs.Common.{◌≡◌, ◌∙◌, refl, sym, ap, subst, ℕ, ◌<◌, ◌^◌, true, ◌&&◌, T, List, [], ◌∷◌, ◌++◌, Ok, Err}
+use Rattle.tz.proofs.Common.{refl, ◌≡◌, subst, ◌∙◌, sym, [], ap, ℕ, ◌∷◌, ◌<◌, List, Fields, Zone, ◌++◌, ◌^◌, true, IsOutcome, Err, Result, Ok, IfErr, IfOk, Logic, OnOk, T, Ura, MutSlice, sem}
+use Rattle.std.proofs.Common.{◌&&◌}
 pub use Rattle.std.proofs.ResultValues.{and_tt, ok_of, err_of}
 pub use Rattle.std.proofs.VecSteps.Shapes.{arm_body}
 pub use Rattle.std.proofs.raw_atomic.Walks.{proved}
-use Rattle.std.specs.Prelude.{Result, IfOk, IfErr, OnOk}
 pub use Rattle.tz_base.specs.Fields.{fields_of}
 pub use Rattle.tz.specs.LentSlots.{slot_row, RestsIfInvalid}
 pub use Rattle.tz.specs.Lists.{reference_of}
-use Rattle.tz.specs.Outcomes.{IsOutcome}
-use Rattle.tz_base.specs.declared.fields.Fields.{Fields}
-use Rattle.tz_zone.specs.Table.{Zone}
 pub use Rattle.tz.specs.declared.datetime.find.Refused.{Refused}
 pub use Rattle.tz.specs.declared.datetime.found.FoundDateTimeListRefMut.{FoundDateTimeListRefMut}
 pub use Rattle.tz_base.specs.declared.error.TzError.{TzError}
@@ -28,7 +25,6 @@ pub use denote.Memory.{lone}
 pub use denote.RattleType.{RattleType}
 use denote.Ref.{MutBor}
 pub use denote.Signature.{named_lft, types_at}
-use denote.Slice.{MutSlice}
 pub use denote.Steps.{peeks, only, heard, nothing}
 pub use denote.Triple.Call.{calls_at}
 pub use denote.Triple.Clauses.{Lasts, lasts, at_exit}
@@ -39,10 +35,8 @@ pub use denote.Triple.Walked.{walk_of, ends_at}
 pub use mir.Syntax.{Lifetime, Ty, named}
 pub use mir.Val.{has_ty, WT, Val, of_list}
 pub use prog.Wp.{Env, Wp, at_return, after_seq}
-use seplogic.Ra.Ura.{Ura}
 pub use types.ByLocal.{alloc_all, pass_all, free_all, look_at, look_in_at, get, get_in, get_tag, sets, sets_last, lands_as, env}
 pub use types.Kit.{Item, Goal, Seq, keep, each, assume, fpack, feq_i, feq_l, done, ‵, raw, ◌⊛◌, ◌$◌, ◌∵◌, !, qed, move, drop, use1, split, rewrite, fsplit, fjoin, fpick, Post, any_q, some, later, at_ret, by, use0, pick, await, group, frame, suffices}
-use types.Logic.{Logic, sem}
 pub use types.Match.{live, vrt, in_variant}
 pub use types.Part.{whole, sub, agg}
 pub use types.Run.{enter, of_opd, addr, from, fld, hop, stop, first, switches_on, exec, returns, no_more, and_then, lit}

@@ -1,3 +1,4 @@
+mod Common
 pub mod PlacedSlots
 pub mod LentSlots
 pub mod SearchParameters

@@ -1,20 +1,8 @@
 -- A meaning is that of one list, and of this list each choice means one entry or none.
-use Rattle.std.proofs.Common.{◌≡◌, ◌≢◌, ◌∙◌, ◌↔◌, ℕ, ◌-◌, ◌≤◌, refl, sym, ap, subst, arith, List, [], ◌∷◌, length, Option, Some, None, slice_get}
-use Rattle.std.specs.Option.{option_or}
-use Rattle.tz_base.specs.Fields.{reading}
-use Rattle.tz_base.specs.declared.fields.Fields.{Fields}
-use Rattle.tz_zone.specs.Clock.{IsClock}
-use Rattle.tz_zone.specs.Table.{Zone}
-use Rattle.tz.specs.DateTimes.{DateTime, ShowsByClock}
-use Rattle.tz.specs.Found.{IsFound}
-use Rattle.tz.specs.LocalMeanings.{ChoicesAgree, HasMeaning, meaning_of}
-use Rattle.tz.specs.Meanings.{entry_meant, first_shown, instant_meant, last_entry, only_shown, IsMeaning, IsMeantIn}
-use Rattle.tz.specs.declared.datetime.disambiguation.Disambiguation.{Disambiguation}
-use Rattle.tz.specs.declared.datetime.disambiguation.Disambiguation.TheVariants.{Compatible, Earlier, Later, Reject}
-use Rattle.tz.specs.declared.datetime.found.FoundDateTimeKind.{FoundDateTimeKind}
-use Rattle.tz.specs.declared.datetime.found.FoundDateTimeKind.TheVariants.{Normal, Skipped}
+use Rattle.tz.proofs.Common.{arith, refl, ◌≡◌, subst, ◌∙◌, sym, [], ap, ℕ, ◌∷◌, List, length, Fields, IsClock, Some, Zone, ◌≤◌, ◌-◌, None, Option, reading, ◌≢◌, Normal, FoundDateTimeKind, DateTime, Skipped, IsFound, ShowsByClock, Disambiguation, HasMeaning, IsMeaning, IsMeantIn, More, instant_meant, Compatible, Earlier, Later, Nothing, Once, Reject, Twice, entry_meant, meaning_of, option_or, ChoicesAgree, first_shown, last_entry, only_shown}
+use Rattle.std.proofs.Common.{◌↔◌, slice_get}
 use Rattle.tz.specs.declared.datetime.disambiguation.Meaning.{Meaning}
-use Rattle.tz.specs.declared.datetime.disambiguation.Meaning.TheVariants.{Nothing, Once, Twice, Skipped as Gap, More}
+use Rattle.tz.specs.declared.datetime.disambiguation.Meaning.TheVariants.{Skipped as Gap}
 use Rattle.tz.proofs.UniqueLists.{found_unique}
 use Rattle.tz.proofs.UniqueMeanings.{meaning_unique}
 

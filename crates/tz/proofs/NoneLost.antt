@@ -1,17 +1,5 @@
 -- If a clock has a type all through the window of a reading, it shows the reading there or passes over it.
-use Rattle.std.proofs.Common.{◌≡◌, ◌≢◌, ℕ, zero, suc, ◌+◌, ◌⊎◌, inl, inr, refl, subst, arith, ℤ, pos, ◌+ℤ◌, ◌-ℤ◌, ◌≤ℤ◌, List, []}
-use Rattle.std.specs.List.{Contains}
-use Rattle.std.proofs.lemmas.Int.{ints, by_lt_z}
-use Rattle.tz_base.specs.Fields.{IsValid, reading}
-use Rattle.tz_base.specs.declared.fields.Fields.{Fields}
-use Rattle.tz_base.proofs.DateOrder.{gap_between}
-use Rattle.tz_rule.specs.LocalTimeType.{LocalTimeType}
-use Rattle.tz_zone.specs.Table.{Zone}
-use Rattle.tz_zone.specs.Clock.{IsClock}
-use Rattle.tz.specs.Found.{Clock, Shows, PassesOver, IsFoundBy, IsFound}
-use Rattle.tz.specs.Windows.{IsWindow}
-use Rattle.tz.specs.declared.datetime.found.FoundDateTimeKind.{FoundDateTimeKind}
-use Rattle.tz.specs.declared.datetime.found.FoundDateTimeKind.TheVariants.{Normal, Skipped}
+use Rattle.tz.proofs.Common.{arith, refl, ◌≡◌, subst, ints, inr, inl, [], ℕ, List, ◌+◌, pos, ℤ, Fields, IsClock, Zone, suc, ◌-ℤ◌, zero, ◌+ℤ◌, IsValid, ◌≤ℤ◌, LocalTimeType, reading, ◌⊎◌, ◌≢◌, Normal, FoundDateTimeKind, Clock, Skipped, IsFound, Contains, IsFoundBy, by_lt_z, PassesOver, IsWindow, Shows, gap_between}
 use Rattle.tz.proofs.DatedEntries.{side_exists}
 use Rattle.tz.proofs.ReadingWindows.{clock_between}
 

@@ -1,11 +1,8 @@
 -- Slots filled by the entries of a list from a number on, and by one more at its end.
-use Rattle.std.proofs.Common.{◌≡◌, ℕ, zero, suc, ◌+◌, ◌-◌, ◌^◌, ◌<◌, ◌≤◌, ◌∙◌, refl, sym, ap, arith, List, [], ◌∷◌, ◌++◌, length, length-append, set, inl, inr, Some}
-use Rattle.std.specs.Prelude.{min, map, drop}
-use Rattle.std.proofs.lemmas.Bool.{cases_lt}
+use Rattle.tz.proofs.Common.{arith, refl, ◌≡◌, ◌∙◌, inr, sym, inl, [], ap, ℕ, ◌∷◌, ◌<◌, List, length, ◌+◌, Some, ◌≤◌, ◌++◌, suc, zero, ◌-◌, ◌^◌, cases_lt, FoundDateTimeKind, length-append, map, placed, set}
+use Rattle.std.specs.Prelude.{min, drop}
 use Rattle.tz.specs.Buffers.{GrowsBy}
-use Rattle.tz.specs.Plain.{placed}
 use Rattle.tz.specs.Slots.{Slots, filled}
-use Rattle.tz.specs.declared.datetime.found.FoundDateTimeKind.{FoundDateTimeKind}
 use Rattle.tz.specs.declared.datetime.entry_takers.SlotWriter.{SlotWriter}
 
 module _ {S : Type 0} where

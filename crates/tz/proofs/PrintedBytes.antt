@@ -1,12 +1,8 @@
 -- Bytes at positions of a text, and what follows them.
-use Rattle.std.proofs.Common.{◌≡◌, ℕ, zero, suc, ◌+◌, ◌-◌, ◌*◌, ◌/◌, ◌%◌, ◌<◌, ◌≤◌, List, [], ◌∷◌, ◌++◌, length, get_or, drop, refl, sym, ap, ◌∙◌, arith, ℤ, pos, neg_ℤ, append_assoc, append-nil}
-use Rattle.std.specs.Fmt.{decimal, signed_decimal}
+use Rattle.tz.proofs.Common.{arith, refl, ◌≡◌, ◌∙◌, sym, [], ap, ℕ, ◌∷◌, ◌<◌, List, length, ◌+◌, pos, ℤ, Fields, ◌≤◌, ◌++◌, suc, zero, ◌*◌, ◌-◌, ◌%◌, append_assoc, ◌/◌, get_or, two_digits, append-nil, decimal, drop, neg_ℤ, duration_text, nine_digits, offset_text, printed_text, signed_decimal, IsDigitByte}
 use Rattle.std.proofs.Math.ListN.{drop_of_length-le}
-use Rattle.tz_base.specs.declared.fields.Fields.{Fields}
 use Rattle.tz.proofs.PrintedDigits.{decimal-pairs, decimal-two_digits, nine_digits-pairs, duration_text-short, two_digits-below}
 use Rattle.tz.proofs.ReadBack.{after_second, after_minute, after_hour, after_date, after_month, after_year, in_parts}
-use Rattle.tz.specs.PrintedText.{two_digits, nine_digits, duration_text, offset_text, printed_text}
-use Rattle.tz.specs.PrintedBytes.{IsDigitByte}
 
 pub byte_at : (text : List ℕ) (position : ℕ) → position < length text
     → drop position text ≡ get_or text position 0 ∷ drop (position + 1) text

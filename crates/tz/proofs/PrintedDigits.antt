@@ -1,14 +1,6 @@
 -- Digits two at a time.
-use Rattle.std.proofs.Common.{◌≡◌, ℕ, zero, suc, ◌+◌, ◌/◌, ◌%◌, ◌^◌, ◌<◌, ◌≤◌, [], ◌∷◌, ◌++◌, length, length-append, refl, ℤ, pos, negsuc, ◌<ℤ◌, ap, sym, ◌∙◌, arith, append_assoc, append-nil}
-use Rattle.std.specs.Prelude.{unsigned_abs, IsAscii}
-use Rattle.std.specs.Fmt.{decimal, signed_decimal}
-use Rattle.std.proofs.lemmas.Bool.Decides.{nat_tests}
-use Rattle.std.proofs.lemmas.Int.{ints}
-use Rattle.std.proofs.lemmas.Fmt.{decimal_digit, decimal_step, length-decimal-le}
-use Rattle.std.proofs.lemmas.Str.{IsAscii-append}
-use Rattle.std.proofs.lemmas.Str.Ascii.{IsAscii-cons, IsAscii-nil}
-use Rattle.tz_base.specs.declared.fields.Fields.{Fields}
-use Rattle.tz.specs.PrintedText.{last_digits, two_digits, nine_digits, two_digits_or_more, date_text, time_text, middle_text, offset_text, duration_text, printed_text}
+use Rattle.tz.proofs.Common.{arith, refl, ◌≡◌, ◌∙◌, ints, sym, [], ap, ℕ, ◌∷◌, ◌<◌, length, ◌+◌, pos, ℤ, Fields, ◌≤◌, ◌++◌, suc, zero, ◌<ℤ◌, ◌%◌, ◌^◌, append_assoc, ◌/◌, negsuc, two_digits, append-nil, decimal, length-append, decimal_digit, duration_text, nine_digits, offset_text, printed_text, IsAscii-cons, last_digits, length-decimal-le, nat_tests, signed_decimal, IsAscii-append, IsAscii-nil, date_text, time_text, two_digits_or_more, unsigned_abs, decimal_step, middle_text}
+use Rattle.std.specs.Prelude.{IsAscii}
 
 -- the last digits, and the two before them
 pub last_two_digits : (width n : ℕ) → last_digits (suc (suc width)) n ≡ last_digits width (n / 100) ++ two_digits

@@ -1,15 +1,7 @@
 -- What a text is read as is printed in its own form, which is read as the same.
-use Rattle.std.proofs.Common.{◌≡◌, ℕ, ◌^◌, ◌<◌, ℤ, pos, neg_ℤ, FitsSigned, List, Option, Some, sym, ap, subst, ◌∙◌, arith}
-use Rattle.std.proofs.lemmas.Int.{ints}
-use Rattle.std.proofs.lemmas.Option.{same_Some}
+use Rattle.tz.proofs.Common.{arith, ◌≡◌, subst, ◌∙◌, ints, sym, ap, ℕ, ◌<◌, List, pos, ℤ, Fields, Some, ◌^◌, Option, neg_ℤ, IsDateTimeText, date, printed_text, time, Ahead, Behind, IsUtc, Utc, duration, offset, same_Some, Absent, IsOffset, ParsedDateTime}
+use Rattle.std.proofs.Common.{FitsSigned}
 use Rattle.std.specs.Int.{w32}
-use Rattle.tz_base.specs.declared.fields.Fields.{Fields}
-use Rattle.tz_rule.specs.LocalTimeType.{IsOffset}
-use Rattle.tz.specs.DateTimes.{IsUtc}
-use Rattle.tz.specs.DateTimeText.{date, duration, offset, time, IsDateTimeText}
-use Rattle.tz.specs.PrintedText.{printed_text}
-use Rattle.tz.specs.declared.parse.OffsetMark.TheVariants.{Absent, Utc, Ahead, Behind}
-use Rattle.tz.specs.declared.parse.ParsedDateTime.{ParsedDateTime}
 use Rattle.tz.proofs.ReadBack.{printed_is_read, utc_not_past}
 use Rattle.tz.proofs.TextValues.{fields_are_utc}
 

@@ -1,27 +1,6 @@
 -- If the list is promised, each entry can be made, so a search is never refused as out of range.
-use Rattle.std.proofs.Common.{◌≢◌, ◌+◌, ◌*◌, inl, inr, sym, ap, subst, ◌∙◌, arith, ℤ, pos, negsuc, ◌+ℤ◌, ◌-ℤ◌, ◌≤ℤ◌, ◌<ℤ◌, Some}
-use Rattle.std.proofs.lemmas.Int.{ints}
-use mir.Syntax.{w32}
-use mir.Val.{SFits}
-use Rattle.tz_base.specs.declared.error.DateTimeError.{DateTimeError}
-use Rattle.tz_base.specs.declared.error.DateTimeError.TheVariants.{InvalidMonth, InvalidMonthDay, InvalidHour, InvalidMinute, InvalidSecond, InvalidNanoseconds}
-use Rattle.tz_base.specs.Fields.{IsValid, IsFirstFault, IsReading, reading}
-use Rattle.tz_base.specs.declared.fields.Fields.{Fields}
-use Rattle.tz_base.specs.declared.error.TzError.{TzError}
+use Rattle.tz.proofs.Common.{arith, subst, ◌∙◌, ints, inr, sym, inl, ap, ◌+◌, pos, ℤ, Fields, IsClock, Some, Zone, ◌-ℤ◌, ◌*◌, ◌+ℤ◌, ◌<ℤ◌, w32, IsValid, ◌≤ℤ◌, negsuc, LocalTimeType, reading, ◌≢◌, Normal, SFits, Clock, EachCanBeMade, IsReading, Skipped, TzError, Fixed, TransitionRule, Alternate, AreOffsetsOf, IsFindFault, IsRuleType, DateTimeError, InvalidHour, InvalidMinute, InvalidMonth, InvalidMonthDay, InvalidNanoseconds, InvalidSecond, IsFirstFault, IsPromised, AreEndOffsets, HasPlainOffsets, HasRuleOffsets, IsFarFromEnds, IsInsideEnds, day_in_year, first_day-mono, first_day_bounds}
 use Rattle.tz_base.specs.declared.error.TzError.TheVariants.{OutOfRange}
-use Rattle.tz_base.proofs.DaysOfYears.{day_in_year, first_day_bounds}
-use Rattle.tz_base.proofs.DateOrder.{first_day-mono}
-use Rattle.tz_rule.specs.LocalTimeType.{LocalTimeType}
-use Rattle.tz_rule.specs.Rule.{IsRuleType}
-use Rattle.tz_rule.specs.declared.timezone.transition_rule.TransitionRule.{TransitionRule}
-use Rattle.tz_rule.specs.declared.timezone.transition_rule.TransitionRule.TheVariants.{Fixed, Alternate}
-use Rattle.tz_zone.specs.Table.{Zone}
-use Rattle.tz_zone.specs.Clock.{IsClock}
-use Rattle.tz_zone.specs.Offsets.{AreEndOffsets}
-use Rattle.tz.specs.Found.{Clock, EachCanBeMade}
-use Rattle.tz.specs.Reached.{AreOffsetsOf}
-use Rattle.tz.specs.declared.datetime.found.FoundDateTimeKind.TheVariants.{Normal, Skipped}
-use Rattle.tz.specs.FindFaults.{IsFindFault, IsFarFromEnds, IsInsideEnds, HasRuleOffsets, HasPlainOffsets, IsPromised}
 use Rattle.tz_rule.proofs.UtcYears.{year_fits}
 use Rattle.tz.proofs.ClockTypes.{fixed_type, alternate_type, offsets_from_types}
 use Rattle.tz.proofs.ReadingWindows.{clock_between}

@@ -1,22 +1,8 @@
 -- What is printed is read: each part of a printed text is what the grammar reads there.
-use Rattle.std.proofs.Common.{◌≡◌, ℕ, zero, suc, ℤ, pos, negsuc, neg_ℤ, Some, ◌+◌, ◌-◌, ◌*◌, ◌/◌, ◌%◌, ◌^◌, ◌<◌, ◌≤◌, inl, inr, List, [], ◌∷◌, ◌++◌, length, append_assoc, append-nil, length-append, refl, sym, ap, ◌∙◌, subst, arith}
-use Rattle.std.specs.Prelude.{FitsSigned, Bool, true, false, ◌==◌, if◌then◌else◌}
+use Rattle.tz.proofs.Common.{arith, refl, ◌≡◌, subst, ◌∙◌, ints, inr, sym, inl, [], ap, ℕ, ◌∷◌, ◌<◌, List, length, ◌+◌, pos, ℤ, Fields, Some, ◌≤◌, ◌++◌, suc, zero, ◌*◌, ◌-◌, ◌%◌, ◌^◌, IsValid, append_assoc, ◌/◌, negsuc, digits_value, cases_lt, fields_of, two_digits, append-nil, decimal, length-append, if◌then◌else◌, IsPair, neg_ℤ, FitsSigned, IsDateTimeText, IsFraction, date, duration_text, eqb-true, is_leap, nine_digits, offset_text, printed_text, time, Ahead, Behind, IsDigits, IsPastTheEnd, IsUtc, IsYear, Utc, duration, last_digits, month_length, nat_tests, offset, signed_decimal, ◌==◌, EndsDigits, IsHours, IsOffset, IsSecond, IsSeconds, date_text, day_of, decimal_is_IsNumeral, seconds_text, time_text, two_digits_or_more, day_number}
+use Rattle.std.specs.Prelude.{Bool, true, false}
 use Rattle.std.specs.Int.{w32}
-use Rattle.std.specs.Fmt.{decimal, signed_decimal}
-use Rattle.std.specs.Str.Parse.{digits_value}
-use Rattle.std.proofs.lemmas.Bool.{cases_lt, eqb-true}
-use Rattle.std.proofs.lemmas.Bool.Decides.{nat_tests}
-use Rattle.std.proofs.lemmas.Int.{ints}
-use Rattle.std.proofs.lemmas.Fmt.{decimal_is_IsNumeral}
-use Rattle.tz_base.specs.declared.fields.Fields.{Fields}
-use Rattle.tz_base.specs.Days.{day_number, is_leap, month_length}
-use Rattle.tz_base.specs.Fields.{IsValid, day_of, fields_of}
-use Rattle.tz_rule.specs.LocalTimeType.{IsOffset}
 use Rattle.tz.specs.UtcConstants.{max_is_utc}
-use Rattle.tz.specs.DateTimes.{IsPastTheEnd, IsUtc}
-use Rattle.tz.specs.PrintedText.{last_digits, two_digits, nine_digits, two_digits_or_more, date_text, time_text, seconds_text, duration_text, offset_text, printed_text}
-use Rattle.tz.specs.DateTimeText.{EndsDigits, IsDigits, IsFraction, IsHours, IsPair, IsSecond, IsSeconds, IsYear, date, time, duration, offset, IsDateTimeText}
-use Rattle.tz.specs.declared.parse.OffsetMark.TheVariants.{Utc, Ahead, Behind}
 use Rattle.tz.proofs.LastDigits.{last_digits_all, last_digits_length, last_digits_value}
 use Rattle.tz.proofs.PrintedDigits.{decimal-pairs, length-two_digits, two_digits_or_more-below}
 

@@ -1,19 +1,8 @@
 -- The window of a reading holds all that the clock can show, and no more transitions take effect there than a rising
 -- list of them has.
-use Rattle.std.proofs.Common.{◌≡◌, ℕ, zero, suc, ◌+◌, ◌-◌, ◌<◌, ◌≤◌, ◌∙◌, inl, inr, refl, sym, ap, subst, arith, ℤ, ◌-ℤ◌, ◌≤ℤ◌, List, [], ◌∷◌, length, get_or, Option}
-use Rattle.std.specs.List.{All, Contains, range_with_len}
-use Rattle.std.proofs.lemmas.Int.{ints}
-use Rattle.std.proofs.lemmas.Bool.{cases_lt}
-use Rattle.std.proofs.lemmas.List.{get_or_default}
+use Rattle.tz.proofs.Common.{arith, refl, ◌≡◌, subst, ◌∙◌, ints, inr, sym, inl, [], ap, ℕ, ◌∷◌, ◌<◌, List, length, ◌+◌, ℤ, Zone, ◌≤◌, suc, ◌-ℤ◌, zero, ◌-◌, ◌≤ℤ◌, Option, LocalTimeType, get_or, cases_lt, Contains, Fixed, TransitionRule, All, Alternate, AreOffsetsOf, IsRuleType, AtMostTakeEffectAround, AtMostTakeEffectIn, IsWindow, TakesEffectIn, AreRising, IsGreatestOffset, IsLeastOffset, IsOffsetOfRule, get_or_default, range_with_len}
 use Rattle.std.proofs.lemmas.List.FromFn.{length-range_with_len, get_or-range_with_len}
-use Rattle.tz_rule.specs.LocalTimeType.{LocalTimeType}
-use Rattle.tz_rule.specs.Rule.{IsRuleType}
-use Rattle.tz_rule.specs.declared.timezone.transition_rule.TransitionRule.{TransitionRule}
-use Rattle.tz_rule.specs.declared.timezone.transition_rule.TransitionRule.TheVariants.{Fixed, Alternate}
-use Rattle.tz_zone.specs.Table.{Zone}
-use Rattle.tz.specs.Reached.{AreOffsetsOf}
-use Rattle.tz_zone.specs.Offsets.{IsOffsetOfRule, IsOffset, IsLeastOffset, IsGreatestOffset}
-use Rattle.tz.specs.Windows.{IsWindow, TakesEffectIn, AreRising, AtMostTakeEffectIn, AtMostTakeEffectAround}
+use Rattle.tz_zone.specs.Offsets.{IsOffset}
 use Rattle.tz.proofs.ClockTypes.{fixed_type, alternate_type, offsets_from_types}
 
 -- the offset of what a rule answers is one of its offsets

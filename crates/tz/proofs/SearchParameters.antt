@@ -1,19 +1,15 @@
 -- The parameters of `find_n` and `find_n_counted`, for their proofs by hand: what is left of each, how the machine
 -- stores it, and that it is of its type.
-use Rattle.std.proofs.Common.{refl, List, [], ◌∷◌, w8, w32}
-use seplogic.Ra.Ura.{Ura}
-use mir.Syntax.{named}
+use Rattle.tz.proofs.Common.{refl, [], ◌∷◌, List, Logic, Ura, SliceRefMutOf, i32, mut_slice_Lawful, mut_slice_Tells, mut_slice_vals, named, u32, u8, w8}
+use Rattle.std.proofs.Common.{w32}
 use contract.Lifetimes.{Lfts}
-use denote.Builtin.{i32, u8, u32, SliceRefMutOf}
 use denote.Exit.{yes, no}
 use denote.Laws.{Ises, Spells, Tellss, Lawfuls}
 use denote.Plain.{uint_vals, uint_Tells, uint_Lawful}
 use denote.Signature.{Slot, plain, named_lft, types_at}
 use denote.Signed.{sint_vals, sint_Tells, sint_Lawful}
-use denote.Slice.{mut_slice_vals, mut_slice_Tells, mut_slice_Lawful}
 use denote.Triple.End.{Kepts}
 use denote.Triple.Walked.{Stays, AllGo, Goes, stay_dropped, Goes-dropped, Goes-spent_slice}
-use types.Logic.{Logic}
 use Rattle.tz_zone.specs.contracts.timezone.zone_ref.TimeZoneRef as zone
 use Rattle.tz_zone.proofs.timezone.zone_ref.TimeZoneRef.TheLaws as zone_laws
 use Rattle.tz.specs.LentSlots.{slot_row}

@@ -1,20 +1,9 @@
 -- Digits at the front of bytes, and a number of two digits there, are these alone, and so is what follows them.
-use Rattle.std.proofs.Common.{◌≡◌, ◌≢◌, min, ℕ, suc, zero, ◌+◌, ◌-◌, ◌*◌, ◌/◌, ◌%◌, ◌^◌, ◌<◌, ◌≤◌, inl, inr, ℤ, pos, neg_ℤ, List, [], ◌∷◌, ◌++◌, length, get_or, take, drop, refl, sym, ap, ◌∙◌, subst, arith}
-use Rattle.std.proofs.Math.Nat.{mul-lt-mul_of_pos_right, pow-suc}
+use Rattle.tz.proofs.Common.{arith, refl, ◌≡◌, subst, ◌∙◌, inr, sym, inl, [], ap, ℕ, ◌∷◌, ◌<◌, List, length, ◌+◌, pos, ℤ, ◌≤◌, ◌++◌, suc, zero, ◌*◌, ◌-◌, ◌%◌, ◌^◌, ◌/◌, digits_value, get_or, ◌≢◌, two_digits, decimal, drop, IsPair, Result, neg_ℤ, FitsSigned, IsFraction, decimal_digit, take, AllDigits, AreYearDigits, Begins, IsDigits, IsYear, length-decimal-le, length-drop, length-take, EndsDigits, IsNumeralModel, digits_value-lt, min, numerals_by_value, pow-suc, take_all, OkIff, decimal-digits_value, digit_value, digits_value_short, mul-lt-mul_of_pos_right, tells_digits}
 use Rattle.std.proofs.lemmas.Nat.{pow-add}
-use Rattle.std.proofs.lemmas.List.{take_all, length-drop, length-take}
-use Rattle.std.proofs.lemmas.Fmt.{decimal_digit, decimal-digits_value, length-decimal-le}
-use Rattle.std.proofs.lemmas.Int.Digits.{digits_value-lt}
-use Rattle.std.proofs.lemmas.Str.Parse.{IsNumeralModel, digits_value_short, numerals_by_value, tells_digits}
-use Rattle.std.specs.Char.{digit_value}
-use Rattle.std.specs.Fmt.{decimal}
 use Rattle.std.specs.Int.{w32}
-use Rattle.std.specs.Prelude.{FitsSigned, None, Result, Ok, Err, OkIff}
+use Rattle.std.specs.Prelude.{None, Ok, Err}
 use Rattle.std.specs.Result.{result_ok}
-use Rattle.std.specs.Str.Parse.{AllDigits, digits_value}
-use Rattle.tz.specs.DateTimeText.{AreYearDigits, EndsDigits, IsDigits, IsFraction, IsPair, IsYear}
-use Rattle.tz_zone.specs.TzText.{Begins}
-use Rattle.tz.specs.PrintedText.{two_digits}
 use Rattle.tz.proofs.PrintedDigits.{two_digits-below}
 
 pub digits_front_unique : (digits digits' rest rest' : List ℕ) → AllDigits 10 digits → AllDigits 10 digits'

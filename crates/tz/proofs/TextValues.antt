@@ -1,14 +1,5 @@
 -- What a text is read as is a UTC date time.
-use Rattle.std.proofs.Common.{ℕ, ◌-◌, ◌^◌, ◌<◌, inl, inr, List, length, sym, subst, arith}
-use Rattle.std.specs.Str.Parse.{digits_value}
-use Rattle.std.proofs.lemmas.Int.Digits.{digits_value-lt}
-use Rattle.tz_base.specs.declared.fields.Fields.{Fields}
-use Rattle.tz_base.specs.Days.{is_leap}
-use Rattle.tz_base.specs.Fields.{IsValid, fields_of}
-use Rattle.tz_base.proofs.CivilReadings.{month_length-le}
-use Rattle.tz_base.proofs.LastSeconds.{valid_reading}
-use Rattle.tz.specs.DateTimes.{IsPastTheEnd, IsUtc}
-use Rattle.tz.specs.DateTimeText.{IsFraction, date, time}
+use Rattle.tz.proofs.Common.{arith, subst, inr, sym, inl, ℕ, ◌<◌, List, length, Fields, ◌-◌, ◌^◌, IsValid, digits_value, fields_of, IsFraction, date, is_leap, time, valid_reading, IsPastTheEnd, IsUtc, month_length-le, digits_value-lt}
 use Rattle.tz.proofs.TextFronts.{fraction_below}
 
 nanoseconds_below : (text : List ℕ) (n : ℕ) (rest : List ℕ) → IsFraction text n rest → n < 1000000000

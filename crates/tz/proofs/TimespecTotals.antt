@@ -1,9 +1,5 @@
 -- Each total has seconds, rounded down, and nanoseconds over; so have those a duration later and earlier.
-use Rattle.std.proofs.Common.{◌≡◌, ◌+◌, ◌-◌, ◌/◌, ◌%◌, ◌<◌, ℕ, ℤ, pos, negsuc, ◌+ℤ◌, ◌-ℤ◌, ◌*ℤ◌, Option, subst, arith}
-use Rattle.std.specs.Prelude.{◌↔◌, IfSome, IsSome}
-use Rattle.std.proofs.lemmas.Int.{ints}
-use Rattle.tz_base.specs.Fields.{IsReading, IsTimespec, total_nanoseconds_of}
-use Rattle.tz.specs.DateTimes.{IsUtcTotal}
+use Rattle.tz.proofs.Common.{arith, ◌≡◌, subst, ints, ℕ, ◌<◌, ◌+◌, pos, ℤ, ◌-ℤ◌, ◌+ℤ◌, ◌-◌, ◌%◌, ◌/◌, Option, negsuc, IsReading, IfSome, total_nanoseconds_of, IsSome, IsTimespec, IsUtcTotal, ◌*ℤ◌, ◌↔◌}
 
 pub timespec_exists : (total : ℤ) → (seconds : ℤ) × (nanoseconds : ℕ) × IsTimespec total seconds nanoseconds
 timespec_exists (pos n) = (

@@ -1,23 +1,8 @@
 -- The names, days and times of day of a TZ string are read back.
-use Rattle.std.proofs.Common.{◌≡◌, ◌≢◌, inl, inr, ℕ, ◌<◌, ◌≤◌, Bool, true, false, List, [], ◌∷◌, ◌++◌, length, refl, sym, ap, ◌∙◌, subst, arith, append_assoc, ℤ, pos, negsuc}
-use Rattle.std.specs.Prelude.{◌||◌, nat_lt, not, if◌then◌else◌}
-use Rattle.std.specs.Char.{is_ascii_digit, is_ascii_alphabetic}
-use Rattle.std.specs.Fmt.{decimal}
-use Rattle.std.specs.List.{list_all}
-use Rattle.std.specs.Ordering.{int_eq}
-use Rattle.std.proofs.lemmas.Bool.{and_parts, cases_lt, false≢true, ltb-false, ltb-true, ne_eqb}
-use Rattle.std.proofs.lemmas.Bool.Decides.{Decides-int_eq}
-use Rattle.std.proofs.lemmas.Int.{ints}
-use Rattle.std.proofs.lemmas.List.Elements.{All-weaker}
-use Rattle.std.proofs.lemmas.List.Sums.{list_all-from_AllPass}
-use Rattle.tz_rule.specs.Alternate.{IsRuleTime}
+use Rattle.tz.proofs.Common.{arith, refl, ◌≡◌, subst, ◌∙◌, ints, inr, sym, inl, [], ap, ℕ, ◌∷◌, ◌<◌, List, length, pos, ℤ, ◌≤◌, ◌++◌, append_assoc, negsuc, ◌≢◌, cases_lt, true, Bool, decimal, false, if◌then◌else◌, Begins, Decides-int_eq, IsTimeUpTo, false≢true, int_eq, is_ascii_alphabetic, plain_time_text, signed_time_text, ◌||◌, All-weaker, IsDesignation, IsNumber, IsRuleText, IsTimeOfRule, and_parts, is_ascii_digit, is_extended_time, list_all, name_text, slash, time_of_day_text, turn_text, IsDay, IsDayTime, IsDesignationByte, IsName, IsRuleInRange, IsRuleTime, SwitchText, closing_bracket, day_text, day_time_hours, dot, is_bare, is_in_brackets, list_all-from_AllPass, ltb-false, ltb-true, nat_lt, ne_eqb, not, opening_bracket}
 use Rattle.tz_rule.specs.RuleDays.{IsRuleDay}
-use Rattle.tz_rule.specs.LocalTimeType.{IsDesignation, IsDesignationByte}
 use Rattle.tz_rule.specs.declared.timezone.rule_day.RuleDay.{RuleDay}
 use Rattle.tz_rule.specs.declared.timezone.rule_day.RuleDay.TheVariants.{Julian1WithoutLeap, Julian0WithLeap, MonthWeekDay}
-use Rattle.tz_zone.specs.Bytes.{closing_bracket, dot, opening_bracket, slash}
-use Rattle.tz_zone.specs.TzText.{Begins, IsNumber, is_in_brackets, IsName, IsDay, IsDayTime, IsTimeOfRule, IsTimeUpTo, day_time_hours, IsRuleText, IsRuleInRange, SwitchText}
-use Rattle.tz.specs.TzStrings.{is_bare, name_text, day_text, time_of_day_text, turn_text, plain_time_text, signed_time_text, is_extended_time}
 use Rattle.tz.proofs.TzStringParts.{Stops, first_of, run_before, IsBehind, no_byte_behind, no_digit_behind, no_letter_byte, decimal_read, time_of, plain_time_read, signed_time_read, time_up_to}
 
 -- a name with no letter after it

@@ -1,23 +1,10 @@
 -- The numbers, times, names and days of a TZ string are read back, whatever stands after them that none of them goes on
 -- with.
-use Rattle.std.proofs.Common.{◌≡◌, ◌≢◌, ◌⊎◌, inl, inr, ℕ, suc, ◌+◌, ◌*◌, ◌/◌, ◌%◌, ◌^◌, ◌<◌, ◌≤◌, Bool, true, false, cond, List, [], ◌∷◌, ◌++◌, length, refl, sym, ap, ◌∙◌, subst, arith, append_assoc, ℤ, pos, negsuc, ◌<ℤ◌}
-use Rattle.std.specs.Prelude.{◌==◌, ◌&&◌, ◌||◌, neg_ℤ, nat_le, if◌then◌else◌}
-use Rattle.std.specs.Char.{is_ascii_digit, is_ascii_alphabetic}
-use Rattle.std.specs.Fmt.{decimal}
-use Rattle.std.specs.Int.{is_in_range}
-use Rattle.std.specs.List.{list_all, take_while}
+use Rattle.tz.proofs.Common.{arith, refl, ◌≡◌, subst, ◌∙◌, ints, inr, sym, inl, [], ap, ℕ, ◌∷◌, ◌<◌, List, length, ◌+◌, pos, ℤ, ◌≤◌, ◌++◌, suc, ◌*◌, ◌<ℤ◌, ◌%◌, ◌^◌, append_assoc, ◌/◌, negsuc, digits_value, ◌⊎◌, ◌≢◌, cases_lt, true, two_digits, Bool, decimal, false, if◌then◌else◌, decimal_digit, eqb-true, Begins, IsTimeUpTo, is_ascii_alphabetic, plain_time_text, signed_time_text, ◌==◌, ◌||◌, IsNumber, IsNumeralModel, TimeText, and_parts, comma, decimal_is_IsNumeral, is_ascii_digit, list_all, minus_sign, numerals_by_value, seconds_of, seconds_text, ◌&&◌, IsHms, IsPart, IsRun, IsSignedTime, colon, digits_decimal, digits_value-decimal, is_in_range, leb-true, lt-leb, minutes_text, nat_le, plus_sign, take_while, take_while-cons, tells_all_ascii_digits}
+use Rattle.std.proofs.Common.{cond}
+use Rattle.std.specs.Prelude.{neg_ℤ}
 use Rattle.std.specs.Str.{all_ascii_digits}
-use Rattle.std.specs.Str.Parse.{digits_value}
-use Rattle.std.proofs.lemmas.Bool.{and_parts, cases_lt, eqb-true, leb-true, lt-leb}
-use Rattle.std.proofs.lemmas.Fmt.{decimal_digit, digits_decimal, digits_value-decimal, decimal_is_IsNumeral}
-use Rattle.std.proofs.lemmas.Int.{ints}
-use Rattle.std.proofs.lemmas.List.Sums.{take_while-cons}
-use Rattle.std.proofs.lemmas.Str.Parse.{IsNumeralModel, numerals_by_value, tells_all_ascii_digits}
-use Rattle.tz_zone.specs.Bytes.{colon, comma, minus_sign, plus_sign}
-use Rattle.tz_zone.specs.TzText.{Begins, IsRun, IsNumber, IsPart, IsHms, IsSignedTime, IsTimeUpTo, TimeText, seconds_of}
 use Rattle.tz_zone.proofs.TextReadings.{no_digit}
-use Rattle.tz.specs.PrintedText.{two_digits, seconds_text}
-use Rattle.tz.specs.TzStrings.{minutes_text, plain_time_text, signed_time_text}
 use Rattle.tz.proofs.PrintedDigits.{two_digits-below, decimal-two_digits}
 
 -- the text is over, or its first byte does not pass the test

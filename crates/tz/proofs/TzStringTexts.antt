@@ -1,14 +1,5 @@
 -- What the parts of a TZ string are by their cases, and how long a number is.
-use Rattle.std.proofs.Common.{inl, inr, ◌≡◌, ◌≢◌, ℕ, ◌<◌, ◌≤◌, Bool, false, [], ◌∷◌, length, refl, ap, ℤ, pos, negsuc, ◌+ℤ◌, ◌<ℤ◌, ◌≤ℤ◌, arith}
-use Rattle.std.specs.Prelude.{unsigned_abs, if◌then◌else◌}
-use Rattle.std.specs.Fmt.{decimal}
-use Rattle.std.specs.Ordering.{int_eq}
-use Rattle.std.proofs.lemmas.Bool.{cases_Bool}
-use Rattle.std.proofs.lemmas.Bool.Decides.{Decides-int_eq}
-use Rattle.std.proofs.lemmas.Fmt.{length-decimal-le}
-use Rattle.std.proofs.lemmas.Int.{ints}
-use Rattle.tz_zone.specs.Bytes.{minus_sign, slash}
-use Rattle.tz.specs.TzStrings.{plain_time_text, signed_time_text, offset_of_text, time_of_day_text, daylight_offset_text}
+use Rattle.tz.proofs.Common.{arith, refl, ◌≡◌, ints, inr, inl, [], ap, ℕ, ◌∷◌, ◌<◌, length, pos, ℤ, ◌≤◌, ◌+ℤ◌, ◌<ℤ◌, ◌≤ℤ◌, negsuc, ◌≢◌, Bool, decimal, false, if◌then◌else◌, Decides-int_eq, daylight_offset_text, int_eq, length-decimal-le, plain_time_text, signed_time_text, minus_sign, offset_of_text, slash, time_of_day_text, unsigned_abs, cases_Bool}
 
 pub three_digits : (n : ℕ) → n < 1000 → length (decimal n) ≤ 3
 three_digits n below = length-decimal-le 3 n (omega arith) (omega arith) (omega arith)

@@ -1,11 +1,5 @@
 -- What is found of a clock is one list, of which each entry can be made or not.
-use Rattle.std.proofs.Common.{◌≡◌, zero, suc, ◌⊎◌, inl, inr, ℤ, ◌<ℤ◌, List, [], ◌∷◌, refl, sym, ap, ◌∙◌, subst, arith}
-use Rattle.std.specs.List.{All, AllPairs, Contains}
-use Rattle.std.proofs.lemmas.Int.{ints}
-use Rattle.std.proofs.lemmas.List.Elements.{All-contains}
-use Rattle.tz_base.specs.declared.fields.Fields.{Fields}
-use Rattle.tz.specs.Found.{Clock, IsFound, IsFoundBy, CanBeMade, EachCanBeMade, instant_of}
-use Rattle.tz.specs.declared.datetime.found.FoundDateTimeKind.{FoundDateTimeKind}
+use Rattle.tz.proofs.Common.{arith, refl, ◌≡◌, subst, ◌∙◌, ints, inr, sym, inl, [], ap, ◌∷◌, List, ℤ, Fields, suc, zero, ◌<ℤ◌, ◌⊎◌, FoundDateTimeKind, Clock, EachCanBeMade, IsFound, Contains, IsFoundBy, All, All-contains, instant_of, AllPairs, CanBeMade}
 
 module _ {X : Type 0} (at : X → ℤ) where
   -- each of the list is at an earlier position than those after it

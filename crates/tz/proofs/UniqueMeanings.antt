@@ -1,19 +1,7 @@
 -- A search finds one list, of which a choice means one entry, and this gives one date time or one error.
-use Rattle.std.proofs.Common.{◌≡◌, ◌∙◌, inl, inr, arith, refl, sym, ap, subst, List, Option, Some, None, IfSome, FitsSigned}
-use Rattle.std.proofs.lemmas.Option.{same_Some}
+use Rattle.tz.proofs.Common.{arith, refl, ◌≡◌, subst, ◌∙◌, inr, sym, inl, ap, List, Fields, IsClock, Some, Zone, IsValid, None, Option, reading, Normal, FoundDateTimeKind, DateTime, EachCanBeMade, Skipped, TzError, valid_reading, Disambiguation, IsMeaning, IsMeantIn, instant_meant, same_Some, IsMeaningFault, entry_meant, IsMeantFault}
+use Rattle.std.proofs.Common.{IfSome, FitsSigned}
 use Rattle.std.specs.Int.{w32}
-use Rattle.tz_base.specs.Fields.{reading, IsValid}
-use Rattle.tz_base.proofs.LastSeconds.{valid_reading}
-use Rattle.tz_base.specs.declared.error.TzError.{TzError}
-use Rattle.tz_base.specs.declared.fields.Fields.{Fields}
-use Rattle.tz_zone.specs.Clock.{IsClock}
-use Rattle.tz_zone.specs.Table.{Zone}
-use Rattle.tz.specs.DateTimes.{DateTime}
-use Rattle.tz.specs.Found.{EachCanBeMade}
-use Rattle.tz.specs.Meanings.{entry_meant, instant_meant, IsMeantFault, IsMeantIn, IsMeaning, IsMeaningFault}
-use Rattle.tz.specs.declared.datetime.disambiguation.Disambiguation.{Disambiguation}
-use Rattle.tz.specs.declared.datetime.found.FoundDateTimeKind.{FoundDateTimeKind}
-use Rattle.tz.specs.declared.datetime.found.FoundDateTimeKind.TheVariants.{Normal, Skipped}
 use Rattle.tz.proofs.UniqueLists.{found_unique}
 use Rattle.tz.proofs.UniqueResults.{clock_fault_unique, no_fault_where_made, no_fault_where_shown, search_fault_unique, shown_unique}
 

@@ -1,22 +1,6 @@
 -- A lookup has one result, and a search has one error.
-use Rattle.std.proofs.Common.{◌≡◌, ℕ, inl, inr, ℤ, ◌+ℤ◌, sym, ap, ◌∙◌, subst, arith}
-use Rattle.std.proofs.lemmas.Bool.Decides.{nat_tests}
-use Rattle.std.proofs.lemmas.Int.{ints}
-use Rattle.std.specs.Prelude.{◌&&◌, cond, leb}
-use Rattle.tz_base.specs.declared.fields.Fields.{Fields}
-use Rattle.tz_base.specs.declared.error.TzError.{TzError}
+use Rattle.tz.proofs.Common.{arith, ◌≡◌, subst, ◌∙◌, ints, inr, sym, inl, ap, ℕ, ℤ, Fields, IsClock, Zone, ◌+ℤ◌, IsValid, LocalTimeType, reading, DateTime, EachCanBeMade, IsReading, TzError, ShowsByClock, IsClockFault, IsFindFault, ShowsInstant, nat_tests, DateTimeError, InvalidHour, InvalidMinute, InvalidMonth, InvalidMonthDay, InvalidNanoseconds, InvalidSecond, IsFirstFault, IsTypeAfter, ◌&&◌, IsOver, Transition, cond, last_unique, leb, one_leap_time, one_type, some_from_last}
 use Rattle.tz_base.specs.declared.error.TzError.TheVariants.{DateTime as FieldFault}
-use Rattle.tz_base.specs.declared.error.DateTimeError.{DateTimeError}
-use Rattle.tz_base.specs.declared.error.DateTimeError.TheVariants.{InvalidMonth, InvalidMonthDay, InvalidHour, InvalidMinute, InvalidSecond, InvalidNanoseconds}
-use Rattle.tz_base.specs.Fields.{IsFirstFault, IsReading, IsValid, reading}
-use Rattle.tz_rule.specs.LocalTimeType.{LocalTimeType}
-use Rattle.tz_zone.specs.Table.{Transition, Zone}
-use Rattle.tz_zone.specs.Clock.{IsClock, IsOver, IsTypeAfter}
-use Rattle.tz_zone.proofs.Clocks.{last_unique, one_type, some_from_last}
-use Rattle.tz_zone.proofs.LeapTimes.{one_leap_time}
-use Rattle.tz.specs.DateTimes.{DateTime, ShowsByClock, ShowsInstant, IsClockFault}
-use Rattle.tz.specs.FindFaults.{IsFindFault}
-use Rattle.tz.specs.Found.{EachCanBeMade}
 use Rattle.tz.proofs.PromisedLists.{not_out_of_range, valid_without_fault}
 use Rattle.tz.proofs.DatedEntries.{side_unique}
 

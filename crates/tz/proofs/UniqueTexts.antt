@@ -1,21 +1,11 @@
 -- A text of a date time has one reading, or one part that is missing first, and not both, and neither is followed by
 -- more bytes than the text has: this holds of each part, and so of parts in turn.
-use Rattle.std.proofs.Common.{◌≡◌, ℕ, pos, neg_ℤ, Some, None, ◌+◌, ◌-◌, ◌*◌, ◌^◌, ◌≤◌, inl, inr, List, [], ◌∷◌, length, length-append, drop, refl, sym, ap, ◌∙◌, subst, arith}
-use Rattle.std.specs.Prelude.{◌==◌, if◌then◌else◌}
-use Rattle.std.specs.Str.Parse.{digits_value}
-use Rattle.std.proofs.lemmas.List.{length-drop}
-use Rattle.tz_base.specs.declared.fields.Fields.{Fields}
-use Rattle.tz_base.specs.Days.{is_leap, month_length}
-use Rattle.tz_base.specs.Fields.{fields_of}
+use Rattle.tz.proofs.Common.{arith, refl, ◌≡◌, subst, ◌∙◌, inr, sym, inl, [], ap, ℕ, ◌∷◌, List, length, ◌+◌, pos, Fields, Some, ◌≤◌, ◌*◌, ◌-◌, ◌^◌, None, digits_value, fields_of, two_digits, length-append, drop, if◌then◌else◌, IsPair, neg_ℤ, IsDateTimeText, IsFraction, date, is_leap, time, Ahead, Behind, IsDigits, IsYear, Utc, duration, length-drop, month_length, offset, ◌==◌, Absent, IsHours, IsSecond, IsSeconds, ParsedDateTime, IsByte, IsDateTimeTextFault, IsEnd, IsMark, IsMinutes, IsSeparator, after_mark, byte, date_time}
 use Rattle.tz.specs.Grammars.{Grammar, one, ◌▸◌, done}
-use Rattle.tz.specs.DateTimeText.{IsByte, IsDigits, IsEnd, IsFraction, IsHours, IsMark, IsMinutes, IsPair, IsSecond, IsSeconds, IsSeparator, IsYear, byte, date, time, duration, after_mark, offset, date_time, IsDateTimeText, IsDateTimeTextFault}
-use Rattle.tz.specs.PrintedText.{two_digits}
-use Rattle.tz.specs.declared.parse.ParsedDateTime.{ParsedDateTime}
 use Rattle.tz.specs.declared.parse.ParseDateTimeError.{ParseDateTimeError}
 use Rattle.tz.specs.declared.parse.DateTimePart.{DateTimePart}
 use Rattle.tz.specs.declared.parse.DateTimePart.TheVariants as parts
 use Rattle.tz.specs.declared.parse.OffsetMark.{OffsetMark}
-use Rattle.tz.specs.declared.parse.OffsetMark.TheVariants.{Absent, Utc, Ahead, Behind}
 use Rattle.tz.proofs.TextFronts.{digits_unique, no_digits_at_minus, pair_unique}
 
 -- at most one value and one rest

@@ -1,18 +1,11 @@
 -- A walk along a clock looks at each transition that takes effect in the window, and at one more at most.
-use Rattle.std.proofs.Common.{◌≡◌, ◌≢◌, ℕ, zero, suc, ◌+◌, ◌^◌, ◌<◌, ◌≤◌, ◌⊎◌, inl, inr, refl, ap, arith, ℤ, pos, negsuc, ◌+ℤ◌, ◌-ℤ◌, ◌≤ℤ◌, ◌<ℤ◌, List, [], length, get_or, Option, Some, None, Result, Ok, Err}
-use Rattle.std.specs.Prelude.{slice_get, IfSome, OnOk}
-use Rattle.std.proofs.lemmas.Int.{ints, by_lt_z}
-use Rattle.std.proofs.lemmas.Option.{slice_get-get_or}
-use Rattle.tz_zone.specs.Table.{LeapSecond, Zone}
+use Rattle.tz.proofs.Common.{arith, refl, ◌≡◌, ints, inr, inl, [], ap, ℕ, ◌<◌, List, length, ◌+◌, pos, ℤ, Some, Zone, ◌≤◌, suc, ◌-ℤ◌, zero, ◌+ℤ◌, ◌<ℤ◌, ◌^◌, ◌≤ℤ◌, None, Option, negsuc, ◌⊎◌, get_or, ◌≢◌, Err, Ok, by_lt_z, IsInstant-from_bounds, AreLeapSeconds, AtMostTakeEffectIn, IfSome, IsStage, OnOk, TakesEffectIn, first_looks, instant_bounds, slice_get, slice_get-get_or, IsSoundTable, LeapSecond, leap_time_mono}
+use Rattle.std.proofs.Common.{Result}
 use Rattle.tz_zone.specs.LeapTime.{IsInstant, IsLeapTime, IsTimeReached, IsEffect}
 use Rattle.tz_zone.specs.ClockSegments.{from_start}
-use Rattle.tz_zone.specs.ClockSpans.{IsStage}
-use Rattle.tz_zone.specs.ValidZone.{AreLeapSeconds, IsSoundTable}
 use Rattle.tz_zone.specs.declared.clock.window_types.Stage.{Stage}
-use Rattle.tz_zone.proofs.LeapTimes.{IsInstant-from_bounds, instant_bounds, leap_time_mono}
 use Rattle.tz_zone.proofs.PositionRuns.{some_transitions}
 use Rattle.tz_zone.proofs.InstantsWithLeapTime.{defined_between, leap_time_low, leap_unless_refused}
-use Rattle.tz.specs.Windows.{TakesEffectIn, AtMostTakeEffectIn, first_looks}
 use Rattle.tz.proofs.ReadingWindows.{as_many_as_passed}
 
 -- a leap time that is ahead at one instant and reached at another takes effect after the first, and not after the

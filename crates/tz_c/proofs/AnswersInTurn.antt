@@ -1,10 +1,6 @@
 -- The answers at the indexes of a column, one after the other.
-use Rattle.std.proofs.Common.{◌≡◌, ◌≢◌, inl, inr, ◌∙◌, refl, sym, ap, arith, ℕ, zero, suc, ◌+◌, ◌<◌, ◌≤◌, List, [], ◌∷◌, length, Some, slice_set, slice_index_or}
-use Rattle.std.specs.Prelude.{slice_get}
-use Rattle.std.proofs.lemmas.Bool.{cases_lt}
-use Rattle.std.proofs.lemmas.Option.{slice_get_within, slice_get-get_or}
+use Rattle.tz_c.proofs.Common.{refl, inl, inr, ◌≡◌, arith, ◌<◌, ℕ, ◌≤◌, length, sym, Some, List, slice_index_or, ap, slice_get, ◌∙◌, ◌≢◌, [], slice_get_within, suc, zero, ◌+◌, ◌∷◌, slice_get-get_or, AreAnswers, cases_lt, slice_set}
 use Rattle.std.proofs.lemmas.List.{length-set}
-use Rattle.tz_c.specs.Columns.{AreAnswers}
 
 -- an element that is set, and another one
 set_same : {B : Type 0} (xs : List B) (i : ℕ) (b : B) → i < length xs → slice_get (slice_set xs i b) i ≡ Some b

@@ -1,13 +1,8 @@
 -- The type of a zone's clock stands in its list or in its rule, and where it stands first in both.
-use Rattle.std.proofs.Common.{◌≡◌, ◌≢◌, ℕ, zero, suc, ◌+◌, ◌<◌, ◌⊎◌, inl, inr, ℤ, sym, ap, refl, arith, List, [], ◌∷◌, ◌++◌, Option, Some, None, length}
-use Rattle.std.specs.Prelude.{slice_get}
-use Rattle.std.proofs.lemmas.Option.{slice_get_within}
-use Rattle.tz_rule.specs.LocalTimeType.{LocalTimeType}
+use Rattle.tz_c.proofs.Common.{refl, inl, inr, ◌≡◌, arith, ◌<◌, ℕ, Zone, length, sym, Some, IsClock, List, Option, ap, slice_get, ◌≢◌, [], slice_get_within, suc, zero, ◌+◌, ◌∷◌, None, ℤ, IsTypeAfter, LocalTimeType, TransitionRule, IsTypeWithout, ◌⊎◌}
+use Rattle.std.proofs.Common.{◌++◌}
 use Rattle.tz_rule.specs.Rule.{IsRuleType, types_of}
-use Rattle.tz_rule.specs.declared.timezone.transition_rule.TransitionRule.{TransitionRule}
 use Rattle.tz_rule.specs.declared.timezone.transition_rule.TransitionRule.TheVariants.{Fixed, Alternate}
-use Rattle.tz_zone.specs.Clock.{IsClock, IsTypeAfter, IsTypeWithout}
-use Rattle.tz_zone.specs.Table.{Zone}
 use Rattle.tz_c.specs.Indexes.{IsFirstIndex, rule_types, Stands}
 
 rule_type : (rule : TransitionRule) (u : ℤ) (t : LocalTimeType) → IsRuleType rule u t → Stands (types_of rule) t

@@ -1,12 +1,8 @@
 -- The text of an error's code is that of the error, each text is short, and a code that no entry has, has none.
-use Rattle.std.proofs.Common.{◌≡◌, ◌≢◌, refl, subst, ℕ, ◌≤◌, Bool, true, false, List, [], ◌∷◌, length, Option, Some, None}
-use Rattle.std.specs.Prelude.{◌==◌, ◌&&◌, nat_le, codes, ◌++◌, if◌then◌else◌}
-use Rattle.std.specs.List.{list_all}
+use Rattle.tz_c.proofs.Common.{refl, subst, ◌≡◌, ℕ, ◌≤◌, length, Some, List, Option, ◌≢◌, [], false≢true, ◌∷◌, None, Bool, TzError, code_of, eqb-true, error_text, false, text_of_code, texts, true, ◌==◌, codes, if◌then◌else◌, leb-true, list_all, nat_le, number_code, number_text, text_in, ◌&&◌, ◌++◌}
 use Rattle.std.specs.Str.Parse.{error_kind}
 use Rattle.std.specs.declared.num.IntErrorKind.{IntErrorKind}
 use Rattle.std.specs.declared.num.IntErrorKind.TheVariants as kinds
-use Rattle.std.proofs.lemmas.Bool.{eqb-true, leb-true, false≢true}
-use Rattle.tz_base.specs.declared.error.TzError.{TzError}
 use Rattle.tz_base.specs.declared.error.TzError.TheVariants as all
 use Rattle.tz_base.specs.declared.error.DateTimeError.TheVariants as fields
 use Rattle.tz_base.specs.declared.error.LocalTimeTypeError.TheVariants as types
@@ -15,8 +11,6 @@ use Rattle.tz_base.specs.declared.error.TimeZoneError.TheVariants as zones
 use Rattle.tz_base.specs.declared.error.ParseDataError.TheVariants as bytes
 use Rattle.tz_base.specs.declared.error.TzStringError.TheVariants as strings
 use Rattle.tz_base.specs.declared.error.TzFileError.TheVariants as files
-use Rattle.tz_c.specs.Codes.{code_of, number_code}
-use Rattle.tz_c.specs.ErrorTexts.{error_text, number_text, text_in, text_of_code, texts}
 
 -- no entry has the code
 abbrev pub NoneHas : List (ℕ × List ℕ) → ℕ → Type 0

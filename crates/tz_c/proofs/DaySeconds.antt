@@ -1,9 +1,5 @@
 -- The difference of a reading and the start of its day.
-use Rattle.std.proofs.Common.{◌≡◌, refl, arith, ℕ, ◌<◌, ℤ, pos, negsuc, ◌+ℤ◌, ◌-ℤ◌, ◌≤ℤ◌, ◌<ℤ◌}
-use Rattle.std.proofs.lemmas.Int.{ints}
-use Rattle.tz_base.specs.Fields.{IsReading}
-use mir.Syntax.{w64}
-use mir.Val.{SFits, to_z, of_z}
+use Rattle.tz_c.proofs.Common.{refl, SFits, ◌≡◌, arith, w64, pos, ◌<◌, ℕ, ints, IsReading, ◌+ℤ◌, ◌-ℤ◌, ◌<ℤ◌, ◌≤ℤ◌, ℤ, negsuc, of_z, to_z}
 
 -- the difference of the numbers that are passed is that of the numbers
 pub difference : (x s : ℤ) → SFits w64 x → SFits w64 s → IsReading x → negsuc 67768100568057598 ≤ℤ s

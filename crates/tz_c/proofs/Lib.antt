@@ -1,3 +1,4 @@
+mod Common
 pub mod AnswersInTurn
 pub mod ClockIndexes
 pub mod DaySeconds

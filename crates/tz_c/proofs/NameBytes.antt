@@ -1,9 +1,6 @@
 -- A name of a time zone is ASCII, and so it is text.
-use Rattle.std.proofs.Common.{◌≡◌, refl, ℕ, zero, suc, ◌<◌, Bool, true, false, List, [], ◌∷◌, All, cond, arith, inl, inr}
-use Rattle.std.specs.Prelude.{◌==◌}
-use Rattle.std.specs.List.{slice_split, onto_first}
+use Rattle.tz_c.proofs.Common.{refl, inl, inr, ◌≡◌, arith, ◌<◌, ℕ, List, [], suc, zero, ◌∷◌, Bool, eqb-true, false, true, ◌==◌, All, cond, onto_first, slice_split}
 use Rattle.std.specs.Str.{IsAscii, IsUtf8}
-use Rattle.std.proofs.lemmas.Bool.{eqb-true}
 use Rattle.std.proofs.lemmas.List.Elements.{All-nil, All-cons, All-head, All-tail}
 use Rattle.std.proofs.lemmas.Str.{IsUtf8-from_ascii}
 use Rattle.tz_zone.specs.Bytes.{slash}

@@ -1,33 +1,18 @@
 -- Two answers for one value have one code, and one value where that is 0: so a column has what single calls write.
-use Rattle.std.proofs.Common.{◌≡◌, ◌≢◌, ◌∙◌, inl, inr, refl, sym, ap, arith, ℕ, zero, suc, ◌<◌, ℤ, pos}
-use Rattle.std.proofs.Common.{subst, List, length, Option, Some, None, slice_index_or, FitsSigned}
-use Rattle.std.specs.Prelude.{slice_get}
+use Rattle.tz_c.proofs.Common.{refl, inl, inr, subst, ◌≡◌, arith, pos, ◌<◌, ℕ, Zone, length, sym, Some, IsClock, List, Option, slice_index_or, IsLookupFault, ap, ints, slice_get, ◌∙◌, ◌≢◌, IsReading, slice_get_within, suc, zero, Disambiguation, IsDateTimeAt, IsInstantAt, IsOffsetAt, None, slice_get-get_or, ℤ, AreAnswers, AreInstantsBy, IsChoiceAnswer, IsTypeAfter, LocalTimeType, TzError, choice_of, code_of, AreOfLength, DateTime, FitsSigned, IsAnswer, IsAnswerOr, IsClockFault, IsDateTimeDataOf, IsInstantAnswer, IsMeaningAnswer, IsOffset, IsOver, ShowsByClock, buffer_length, fields_code, reading, same_Some, slice_get_cases}
 use Rattle.std.specs.Int.{w32}
-use Rattle.std.proofs.lemmas.Int.{ints}
-use Rattle.std.proofs.lemmas.Option.{same_Some, slice_get-get_or, slice_get_cases, slice_get_within}
-use Rattle.tz_base.specs.Fields.{IsReading, reading}
 use Rattle.tz_base.specs.declared.fields.Fields.{Fields}
-use Rattle.tz_base.specs.declared.error.TzError.{TzError}
 use Rattle.tz_base.specs.declared.error.DateTimeError.{DateTimeError}
 use Rattle.tz_base.specs.declared.error.DateTimeError.TheVariants as faults
 use Rattle.tz_base.proofs.LastSeconds.{valid_reading}
-use Rattle.tz_rule.specs.LocalTimeType.{LocalTimeType}
-use Rattle.tz_zone.specs.Clock.{IsClock, IsLookupFault, IsOver, IsTypeAfter}
-use Rattle.tz_zone.specs.Table.{Zone}
 use Rattle.tz_zone.proofs.Clocks.{last_unique, one_type, some_from_last}
 use Rattle.tz_zone.proofs.LeapTimes.{one_leap_time}
-use Rattle.tz.specs.DateTimes.{DateTime, IsClockFault, ShowsByClock}
 use Rattle.tz.specs.Meanings.{IsMeaning, IsMeaningFault, instant_meant}
 use Rattle.tz.specs.Plain.{date_time_data, date_time_of}
 use Rattle.tz.specs.declared.datetime.date_time.DateTimeData.{DateTimeData}
-use Rattle.tz.specs.declared.datetime.disambiguation.Disambiguation.{Disambiguation}
 use Rattle.tz.specs.declared.datetime.found.FoundDateTimeKind.TheVariants.{Normal, Skipped}
 use Rattle.tz.proofs.UniqueMeanings.{meaning_fault_unique, meaning_or_fault, meaning_unique}
 use Rattle.tz.proofs.UniqueResults.{clock_fault_unique, no_fault_where_shown, shown_unique}
-use Rattle.tz_c.specs.Codes.{IsAnswer, IsAnswerOr, buffer_length, code_of, fields_code}
-use Rattle.tz_c.specs.Columns.{AreAnswers, AreInstantsBy, AreOfLength, IsDateTimeAt, IsInstantAnswer, IsInstantAt}
-use Rattle.tz_c.specs.Columns.{IsOffset, IsOffsetAt}
-use Rattle.tz_c.specs.DateTimes.{IsChoiceAnswer, IsDateTimeDataOf, IsMeaningAnswer, choice_of}
 
 -- a column has an answer at an index: a code, and a value that answers or that was there before
 record HasAnswer {V : Type 0} (IsAnswerAt : ℕ → ℕ → V → Type 0) (before after : List V) (codes : List ℕ) (i : ℕ)

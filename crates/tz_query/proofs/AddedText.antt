@@ -1,18 +1,8 @@
 -- What steps that follow one another add to the answers.
-use Rattle.std.proofs.Common.{◌≡◌, ℕ, ℤ, List, [], ◌∷◌, ◌++◌, refl, sym, ap, subst, ◌∙◌, append_assoc}
-use Rattle.std.specs.Prelude.{Result, IfOk}
-use Rattle.std.proofs.lemmas.List.{append_cancel_right}
-use Rattle.std.proofs.lemmas.Result.{IfOk-weaker}
-use Rattle.tz_zone.specs.ZoneRef.{zone_of}
-use Rattle.tz_query.specs.Answers.{IsQueryAnswer, IsTimeAnswer}
-use Rattle.tz_query.specs.Lines.{ended, line_feed}
-use Rattle.tz_query.specs.Outputs.{Adds, IsAnswered, Leaves, written}
+use Rattle.tz_query.proofs.Common.{sym, subst, refl, ◌≡◌, [], ap, ◌∷◌, ◌∙◌, ◌++◌, ℕ, List, append_assoc, zone_of, ℤ, ended, line_feed, Time, IfOk-weaker, Adds, written, IfOk, Result, IsTimeAnswer, Query, Answers, IsAnswered, IsQueryAnswer, Leaves, append_cancel_right}
 use Rattle.tz_query.specs.Pages.{EndsLine}
-use Rattle.tz_query.specs.declared.query.read_query.Query.{Query}
-use Rattle.tz_query.specs.declared.query.read_query.Query.TheVariants.{Time}
 use Rattle.tz_query.specs.declared.query.output.Output.{Output}
 use Rattle.tz_query.specs.declared.query.answers.Suffixes.{Suffixes}
-use Rattle.tz_query.specs.declared.query.answers.Answers.{Answers}
 
 module _ {A : Type 0} {a b : Answers A} {x : List ℕ} where
   -- the same text

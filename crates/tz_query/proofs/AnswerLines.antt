@@ -1,19 +1,7 @@
 -- Names and refusals as an answer has them, and one more line and its answer.
-use Rattle.std.proofs.Common.{◌≡◌, ℕ, zero, suc, ◌+◌, ◌<◌, ◌==◌, Bool, false, inl, inr, ℤ, List, [], ◌∷◌, ◌++◌, length, take, get_or, refl, sym, ap, ◌∙◌, subst, arith, append_assoc, append-nil, length-append}
-use Rattle.std.specs.Prelude.{codes, map, ⊤}
-use Rattle.std.proofs.lemmas.List.{take_more, map-append}
-use Rattle.std.proofs.lemmas.List.Elements.{All-nil, All-cons}
-use Rattle.tz_base.specs.declared.fields.Fields.{Fields}
-use Rattle.tz_base.specs.declared.error.TzError.{TzError}
-use Rattle.tz_base.specs.declared.error.TzError.TheVariants.{DateTime, OutOfRange}
-use Rattle.tz_base.specs.declared.error.DateTimeError.{DateTimeError}
-use Rattle.tz_zone.specs.Table.{Zone}
-use Rattle.tz.specs.DateTimes.{IsClockFault}
+use Rattle.tz_query.proofs.Common.{sym, subst, refl, arith, ◌≡◌, [], ap, ◌∷◌, ◌∙◌, ◌++◌, length, ℕ, inl, List, inr, ◌+◌, ◌<◌, append_assoc, take, ℤ, ended, Fields, codes, Zone, get_or, line_feed, append-nil, IsFirstLine, IsLine, All-cons, entry_text, All-nil, AreAnswers, IsAnswer, OutOfRange, map, FoundDateTimeKind, TzError, length-append, suc, zero, AreLines, Bool, IsCut, IsFaultText, false, Clock, DateTimeError, IsLineEnd, take_more, IsClockFault, map-append, ⊤, ◌==◌}
+use Rattle.tz_base.specs.declared.error.TzError.TheVariants.{DateTime}
 use Rattle.tz.specs.FindFaults.{IsFindFault}
-use Rattle.tz.specs.Found.{Clock}
-use Rattle.tz.specs.declared.datetime.found.FoundDateTimeKind.{FoundDateTimeKind}
-use Rattle.tz_query.specs.Lines.{line_feed, IsLine, IsLineEnd, IsFirstLine, IsCut, AreLines, ended}
-use Rattle.tz_query.specs.Answers.{entry_text, IsFaultText, IsAnswer, AreAnswers}
 
 -- every refusal of an instant has a name
 pub clock_fault_text : (z : Zone) (u : ℤ) (n : ℕ) (e : TzError) → IsClockFault z u n e

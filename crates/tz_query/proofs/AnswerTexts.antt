@@ -1,31 +1,8 @@
 -- No answer line holds an LF, and no answer of one line begins as a group of more lines does.
-use Rattle.std.proofs.Common.{◌≡◌, ◌≢◌, ℕ, zero, suc, ◌+◌, ◌/◌, ◌%◌, ◌<◌, ◌≤◌, inl, inr, Bool, true, false, cond, eqb, ltb, ℤ, pos, negsuc, Option, Some, None, List, [], ◌∷◌, ◌++◌, length, get_or, refl, sym, ap, subst, arith}
-use Rattle.std.specs.Prelude.{codes, map, unwrap_or, IfSome, not}
-use Rattle.std.specs.Fmt.{decimal, signed_decimal}
+use Rattle.tz_query.proofs.Common.{sym, subst, refl, arith, ◌≡◌, [], ap, ◌∷◌, ◌++◌, length, ℕ, inl, List, inr, ◌+◌, ◌<◌, ℤ, Fields, pos, codes, Zone, get_or, line_feed, IsClock, Search, moment_text, ◌≤◌, Time, DateTime, IsLine, All-cons, entry_text, flat_map, nine_digits, All, All-nil, IsAnswer, IsSearchAnswer, Meeting, OutOfRange, decimal, field_fault_text, map, ◌≢◌, AreWeekAnswers, FoundDateTimeKind, IsWeekAnswer, TzError, negsuc, signed_decimal, space, suc, zero, All-append, Bool, IfSome, IsFaultText, IsTimeAnswer, LocalTimeType, Normal, Skipped, cond, false, hyphen, ◌%◌, DateTimeError, InvalidNanoseconds, IsFoundBy, NoAvailableLocalTimeType, date_text, last_digits, nat_tests, offset_text, printed_text, time_text, true, two_digits, type_name_text, ◌/◌, All-map, All-weaker, AllPass-from_list_all, InvalidHour, InvalidMinute, InvalidMonth, InvalidMonthDay, InvalidSecond, IsDesignation, IsDesignationByte, IsLocalTimeType, IsSingle, cond-true, cond_both, duration_text, eqb, list_all, list_all-append, list_all-from_AllPass, ltb, not, seconds_text, two_digits_or_more, unwrap_or}
+use Rattle.std.proofs.Common.{Option, Some, None}
 use Rattle.core.specs.Fmt.{digit_glyph, digits, digits_onto}
-use Rattle.std.specs.List.{All, flat_map, list_all}
-use Rattle.std.proofs.lemmas.Bool.{cond-true, cond_both}
-use Rattle.std.proofs.lemmas.Bool.Decides.{nat_tests}
-use Rattle.std.proofs.lemmas.List.Elements.{All-nil, All-cons, All-append, All-map, All-weaker}
-use Rattle.std.proofs.lemmas.List.Folds.{list_all-append}
-use Rattle.std.proofs.lemmas.List.Sums.{AllPass-from_list_all, list_all-from_AllPass}
-use Rattle.tz_base.specs.declared.fields.Fields.{Fields}
-use Rattle.tz_base.specs.declared.error.TzError.{TzError}
-use Rattle.tz_base.specs.declared.error.TzError.TheVariants.{DateTime as FieldFault, OutOfRange, NoAvailableLocalTimeType}
-use Rattle.tz_base.specs.declared.error.DateTimeError.{DateTimeError}
-use Rattle.tz_base.specs.declared.error.DateTimeError.TheVariants.{InvalidMonth, InvalidMonthDay, InvalidHour, InvalidMinute, InvalidSecond, InvalidNanoseconds}
-use Rattle.tz_rule.specs.LocalTimeType.{LocalTimeType, IsDesignationByte, IsDesignation, IsLocalTimeType}
-use Rattle.tz_zone.specs.Table.{Zone}
-use Rattle.tz_zone.specs.Clock.{IsClock}
-use Rattle.tz.specs.DateTimes.{DateTime}
-use Rattle.tz.specs.Found.{IsFoundBy}
-use Rattle.tz.specs.PrintedText.{last_digits, two_digits, nine_digits, two_digits_or_more, date_text, time_text, seconds_text, duration_text, offset_text, printed_text, type_name_text, moment_text}
-use Rattle.tz.specs.declared.datetime.found.FoundDateTimeKind.{FoundDateTimeKind}
-use Rattle.tz.specs.declared.datetime.found.FoundDateTimeKind.TheVariants.{Normal, Skipped}
-use Rattle.tz_query.specs.Lines.{line_feed, IsLine}
-use Rattle.tz_query.specs.Numbers.{hyphen, space}
-use Rattle.tz_query.specs.declared.query.read_query.Query.TheVariants.{Time, Search, Meeting}
-use Rattle.tz_query.specs.Answers.{field_fault_text, IsFaultText, entry_text, IsTimeAnswer, IsSearchAnswer, IsWeekAnswer, AreWeekAnswers, IsAnswer, IsSingle}
+use Rattle.tz_base.specs.declared.error.TzError.TheVariants.{DateTime as FieldFault}
 
 -- digits
 abbrev IsDigit : ℕ → Type 0

@@ -1,31 +1,10 @@
 -- The lines of what is found, and its nanoseconds.
-use Rattle.std.proofs.Common.{◌≡◌, ℕ, ◌<◌, List, [], ◌∷◌, ◌++◌, get_or, inl, refl, sym, ap, subst, ◌∙◌, arith, append_assoc, ℤ}
-use Rattle.std.specs.Prelude.{codes}
-use Rattle.std.specs.Fmt.{decimal}
-use Rattle.std.specs.List.{All, AllZip}
+use Rattle.tz_query.proofs.Common.{sym, subst, refl, arith, ◌≡◌, [], ap, ◌∷◌, ◌∙◌, ◌++◌, ℕ, inl, List, ◌<◌, append_assoc, zone_of, ℤ, ended, Fields, codes, number_of, Zone, get_or, IsClock, Search, moment_text, Adds, DateTime, with_nanoseconds, All, IsSearchAnswer, decimal, moment_of, FoundDateTimeKind, found_lines, AllZip, AreEntries, HasNanoseconds, LocalTimeType, Normal, Shown, Skipped, reading, Answers, Clock, Entry, IsAnswered, IsFoundBy, IsValid, IsFound}
 use Rattle.std.proofs.lemmas.Fmt.{decimal_digit}
-use Rattle.tz_base.specs.declared.fields.Fields.{Fields}
-use Rattle.tz_base.specs.Fields.{IsValid, reading}
-use Rattle.tz_rule.specs.LocalTimeType.{LocalTimeType}
-use Rattle.tz_zone.specs.Clock.{IsClock}
-use Rattle.tz_zone.specs.Table.{Zone}
-use Rattle.tz.specs.DateTimes.{DateTime, moment_of}
-use Rattle.tz.specs.Entries.{Entry, AreEntries, Shown}
 use Rattle.tz.specs.EntryDateTimes.{IsMadeOf}
-use Rattle.tz.specs.Found.{Clock, IsFound, IsFoundBy}
-use Rattle.tz.specs.declared.datetime.found.FoundDateTimeKind.{FoundDateTimeKind}
-use Rattle.tz.specs.declared.datetime.found.FoundDateTimeKind.TheVariants.{Normal, Skipped}
 use Rattle.tz.proofs.DatedEntries.{found_from_entries, made_from_entries}
-use Rattle.tz_zone.specs.ZoneRef.{zone_of}
-use Rattle.tz.specs.PrintedText.{moment_text}
-use Rattle.tz_query.specs.Answers.{found_lines, IsSearchAnswer}
-use Rattle.tz_query.specs.Nanoseconds.{HasNanoseconds, number_of, with_nanoseconds}
-use Rattle.tz_query.specs.Outputs.{Adds, IsAnswered}
-use Rattle.tz_query.specs.declared.query.answers.Answers.{Answers}
-use Rattle.tz_query.specs.declared.query.read_query.Query.TheVariants.{Search}
 use Rattle.tz_query.specs.declared.query.read_query.Nanoseconds.{Nanoseconds}
 use Rattle.tz_query.proofs.AddedText.{with_text}
-use Rattle.tz_query.specs.Lines.{ended}
 use Rattle.tz_query.proofs.OtherNanoseconds.{same_fields, valid_with}
 
 -- the lines of one date time, of two, and of a jump

@@ -1,22 +1,9 @@
 -- Digits that are read eight at once, and nine digits that are copied.
-use Rattle.std.proofs.Common.{◌≡◌, ℕ, zero, suc, ◌+◌, ◌-◌, ◌*◌, ◌/◌, ◌%◌, ◌^◌, ◌<◌, ◌≤◌, Bool, true, false, cond, pos, neg_ℤ, List, [], ◌∷◌, ◌++◌, length, take, drop, get_or, set, replicate, refl, sym, ap, ◌∙◌, subst, arith, inl, inr}
-use Rattle.std.specs.Prelude.{slice_range}
-use Rattle.std.specs.Char.{digit_value, is_ascii_digit}
-use Rattle.std.specs.Str.Parse.{AllDigits, digits_value}
-use Rattle.std.specs.Float.Numeral.{digits_len}
-use Rattle.std.proofs.lemmas.Bool.{cases_lt}
-use Rattle.std.proofs.lemmas.Bool.Decides.{nat_tests}
+use Rattle.tz_query.proofs.Common.{sym, subst, refl, arith, ◌≡◌, [], ap, ◌∷◌, ◌∙◌, ◌++◌, length, ℕ, inl, List, inr, ◌+◌, ◌<◌, take, drop, pos, get_or, ◌≤◌, IsPartFront, nine_digits, digits_value, take_all, EndsDigits, IsNumberFront, length-take-le, suc, zero, ◌*◌, ◌-◌, ◌^◌, AllDigits, Bool, cond, digits_len, drop_more, false, neg_ℤ, replicate, slice_range, ◌%◌, IsDigits, digit_value, is_digit, last_digits, nat_tests, set, take-append-drop, take_more, true, ◌/◌, cases_lt, digit_range, drop-drop, drop-take, is_ascii_digit, length-drop, length-prefix_len, prefix_len-le-length, take-take}
 use Rattle.std.proofs.lemmas.Int.Digits.{digits_value-lt, digits_value_push}
-use Rattle.std.proofs.lemmas.List.{take_all, take-append-drop, drop-drop, drop-take, drop_more, length-drop, length-take-le, take-take, take_more}
-use Rattle.std.proofs.lemmas.List.Folds.{length-prefix_len}
-use Rattle.std.proofs.lemmas.List.Sums.{prefix_len-le-length}
 use Rattle.std.proofs.lemmas.Str.Parse.{digit_at}
 use Rattle.std.proofs.Math.Nat.{pow-le-pow_right}
 use mathlib.Core.Bool.{true≢false}
-use Rattle.core.proofs.dec2flt.DigitsLemmas.{digit_range, is_digit}
-use Rattle.tz.specs.PrintedText.{last_digits, nine_digits}
-use Rattle.tz.specs.DateTimeText.{IsDigits, EndsDigits}
-use Rattle.tz_query.specs.Numbers.{IsNumberFront, IsPartFront}
 use Rattle.tz_query.proofs.NumberFronts.{plain_number, minus_number}
 
 -- a digit by its value, and by its byte

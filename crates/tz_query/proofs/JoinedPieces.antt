@@ -1,13 +1,7 @@
 -- Answers of two pieces of query bytes, of which the first ends in LF, are those of both, and those of both can be cut
 -- into these.
-use Rattle.std.proofs.Common.{◌≡◌, ◌≢◌, ℕ, zero, suc, ◌≤◌, length, inl, inr, List, [], ◌∷◌, ◌++◌, refl, sym, ap, ◌∙◌, subst, arith, append_assoc}
-use Rattle.std.specs.List.{All, AllZip, flat_map}
-use Rattle.std.proofs.lemmas.Bool.{cases_eq}
+use Rattle.tz_query.proofs.Common.{sym, subst, refl, arith, ◌≡◌, [], ap, ◌∷◌, ◌∙◌, ◌++◌, length, ℕ, inl, List, inr, append_assoc, ended, Zone, line_feed, ◌≤◌, IsFirstLine, IsLine, All-cons, flat_map, All, All-nil, AreAnswers, IsAnswer, ◌≢◌, suc, zero, All-append, All-tail, AllZip, AreLines, IsCut, All-head, cases_eq}
 use Rattle.std.proofs.lemmas.List.Concat.{flat_map-append}
-use Rattle.std.proofs.lemmas.List.Elements.{All-nil, All-cons, All-head, All-tail, All-append}
-use Rattle.tz_zone.specs.Table.{Zone}
-use Rattle.tz_query.specs.Lines.{line_feed, IsLine, IsCut, IsFirstLine, AreLines, ended}
-use Rattle.tz_query.specs.Answers.{IsAnswer, AreAnswers}
 use Rattle.tz_query.proofs.AnswerLines.{AreLines-cons, ended-append, nothing_after, rest_is_shorter}
 use Rattle.tz_query.proofs.UniqueAnswers.{no_end_within, answer_groups}
 

@@ -1,3 +1,4 @@
+mod Common
 pub mod NumberFronts
 pub mod LineFronts
 pub mod AddedText

@@ -1,21 +1,8 @@
 -- Where the first line ends, and that a line asks for what its first bytes are.
-use Rattle.std.proofs.Common.{◌≡◌, ◌≢◌, ℕ, ◌+◌, ◌<◌, ◌^◌, inl, inr, ℤ, pos, negsuc, nat_abs, List, [], ◌∷◌, ◌++◌, length, take, drop, get_or, refl, sym, ap, ◌∙◌, subst, arith, append-nil, ◌-◌, ◌≤◌, append_assoc}
-use Rattle.std.specs.Prelude.{FitsSigned, All, Some, None, Result, Ok, Err, IfOk, IfErr, OkIff}
-use Rattle.std.specs.Result.{result_ok}
-use Rattle.std.specs.Int.{w64, FitsUnsignedBits}
-use Rattle.std.specs.Char.{digit_value}
-use Rattle.std.specs.Str.Parse.{AllDigits}
-use Rattle.std.proofs.lemmas.Int.{ints}
-use Rattle.std.proofs.Math.Seq.{drop-append_seam}
-use Rattle.std.proofs.lemmas.List.{drop_more, length-append, take-append-drop}
-use Rattle.std.proofs.lemmas.List.Elements.{All-nil, All-cons, All-append, All-tail, All-from_recursion}
-use Rattle.tz_base.specs.declared.fields.Fields.{Fields}
-use Rattle.tz_query.specs.declared.query.read_query.Query.{Query}
-use Rattle.tz_query.specs.declared.query.read_query.Query.TheVariants.{Time, Search, Meeting}
-use Rattle.tz_query.specs.Lines.{line_feed, IsLine, IsLineEnd, IsFirstLine}
-use Rattle.tz.specs.DateTimeText.{EndsDigits}
-use Rattle.tz_query.specs.Numbers.{hyphen, space, IsNumber, AreNumbers, IsPartFront, ArePartsFront}
-use Rattle.tz_query.specs.Queries.{time_letter, search_letter, meeting_letter, IsLineOf, IsQueryLine, AreFieldsOfBits, numbers_of}
+use Rattle.tz_query.proofs.Common.{sym, subst, refl, arith, ◌≡◌, [], ap, ◌∷◌, ◌∙◌, ◌++◌, length, ℕ, inl, List, inr, ◌+◌, ◌<◌, append_assoc, take, ℤ, Fields, drop, pos, get_or, ints, line_feed, Search, ◌≤◌, Time, append-nil, IsFirstLine, IsLine, All-cons, IsPartFront, All-nil, ArePartsFront, Meeting, ◌≢◌, EndsDigits, Err, FitsSigned, IfOk, Result, Some, meeting_letter, negsuc, numbers_of, search_letter, space, ◌-◌, ◌^◌, All-append, All-tail, AllDigits, AreFieldsOfBits, AreNumbers, IsLineOf, Ok, Query, drop_more, hyphen, result_ok, time_letter, All-from_recursion, FitsUnsignedBits, IsLineEnd, IsNumber, IsQueryLine, None, digit_value, take-append-drop, IfErr, OkIff, drop-append_seam, nat_abs}
+use Rattle.std.specs.Prelude.{All}
+use Rattle.std.specs.Int.{w64}
+use Rattle.std.proofs.lemmas.List.{length-append}
 use Rattle.tz_query.proofs.NumberFronts.{parts_after, parts_unique, parts_in_front, numbers_from_parts}
 
 -- the first line ends at an LF, or where the bytes end

@@ -1,18 +1,6 @@
 -- The date of a week, and the answer lines of weeks in turn.
-use Rattle.std.proofs.Common.{◌≡◌, ℕ, ◌+◌, ℤ, List, [], ◌∷◌, ◌++◌, length, refl, sym, ap, ◌∙◌, subst, arith, append_assoc}
-use Rattle.std.specs.Fmt.{decimal}
-use Rattle.std.specs.List.{flat_map}
-use Rattle.std.proofs.lemmas.Int.{ints}
-use Rattle.tz_base.specs.Days.{IsDateOf}
-use Rattle.tz_base.specs.Fields.{IsCivil}
-use Rattle.tz_base.specs.declared.fields.Fields.{Fields}
-use Rattle.tz_zone.specs.Table.{Zone}
-use Rattle.tz_query.specs.Lines.{ended, line_feed}
-use Rattle.tz_query.specs.Numbers.{space}
-use Rattle.tz_query.specs.Queries.{meeting_letter}
-use Rattle.tz_query.specs.MeetingDates.{midnight}
+use Rattle.tz_query.proofs.Common.{sym, subst, refl, arith, ◌≡◌, [], ap, ◌∷◌, ◌∙◌, ◌++◌, length, ℕ, List, ◌+◌, append_assoc, ℤ, ended, Fields, Zone, ints, line_feed, flat_map, IsCivil, decimal, AreWeekAnswers, IsWeekAnswer, meeting_letter, space, IsDateOf, meeting_lines, midnight}
 use Rattle.tz_query.proofs.AnswerLines.{ended-append}
-use Rattle.tz_query.specs.Answers.{AreWeekAnswers, IsWeekAnswer, meeting_lines}
 
 -- what shows the beginning of a day has its date
 pub date_of_day : (day : ℤ) (d : Fields) → IsCivil (midnight day) 0 d → IsDateOf day d.year d.month d.month_day

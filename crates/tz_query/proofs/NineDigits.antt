@@ -1,11 +1,5 @@
 -- The nine digits of a number below 10^9 are nine bytes that are all digits, and have its value.
-use Rattle.std.proofs.Common.{◌≡◌, ℕ, ◌+◌, ◌-◌, ◌*◌, ◌%◌, ◌^◌, ◌<◌, cond, List, [], ◌∷◌, length, take, drop, refl, sym, ap, ◌∙◌, subst, arith}
-use Rattle.std.specs.Prelude.{slice_range}
-use Rattle.std.specs.Str.Parse.{AllDigits, digits_value}
-use Rattle.std.specs.Float.Numeral.{digits_len}
-use Rattle.core.proofs.dec2flt.DigitsLemmas.{is_digit}
-use Rattle.tz.specs.PrintedText.{nine_digits}
-use Rattle.std.proofs.lemmas.List.{take_all}
+use Rattle.tz_query.proofs.Common.{sym, subst, refl, arith, ◌≡◌, [], ap, ◌∷◌, ◌∙◌, length, ℕ, List, ◌+◌, ◌<◌, take, drop, nine_digits, digits_value, take_all, ◌*◌, ◌-◌, ◌^◌, AllDigits, cond, digits_len, slice_range, ◌%◌, is_digit}
 use Rattle.tz_query.proofs.FastNumbers.{digit_of_value}
 use Rattle.tz.proofs.LastDigits.{last_digits_all, last_digits_length, last_digits_value}
 

@@ -1,11 +1,7 @@
 -- The number at the front of bytes is one alone, and so are numbers after spaces.
-use Rattle.std.proofs.Common.{◌≡◌, ℕ, ◌<◌, ◌≤◌, ◌⊎◌, inl, inr, ℤ, pos, neg_ℤ, List, [], ◌∷◌, ◌++◌, length, drop, refl, sym, ap, ◌∙◌, subst, arith, append_assoc, append-nil}
-use Rattle.std.specs.Prelude.{FitsSigned, Option, Some, None, IfNone}
+use Rattle.tz_query.proofs.Common.{sym, subst, refl, arith, ◌≡◌, [], ap, ◌∷◌, ◌∙◌, ◌++◌, length, ℕ, inl, List, inr, ◌<◌, append_assoc, ℤ, drop, pos, ◌≤◌, append-nil, IsPartFront, ArePartsFront, digits_value, EndsDigits, FitsSigned, IsNumberFront, Some, space, ◌⊎◌, AreNumbers, hyphen, neg_ℤ, IsDigits, IsNumber, None, Option, IfNone}
 use Rattle.std.specs.Int.{w64}
-use Rattle.std.specs.Str.Parse.{digits_value}
-use Rattle.tz.specs.DateTimeText.{IsDigits, EndsDigits}
 use Rattle.tz.proofs.TextFronts.{digits_front_unique}
-use Rattle.tz_query.specs.Numbers.{hyphen, space, IsNumber, IsNumberFront, AreNumbers, IsPartFront, ArePartsFront}
 
 -- digits at the front of bytes are a number, and so they are after a minus
 pub plain_number : (bytes digits rest : List ℕ) → IsDigits bytes digits rest → 0 < length digits

@@ -1,7 +1,5 @@
 -- Fields that stay valid, and show what they showed, with other nanoseconds.
-use Rattle.std.proofs.Common.{◌≡◌, ℕ, ◌<◌, refl, sym, ap, ℤ}
-use Rattle.tz_base.specs.declared.fields.Fields.{Fields}
-use Rattle.tz_base.specs.Fields.{IsCivil, IsValid}
+use Rattle.tz_query.proofs.Common.{sym, refl, ◌≡◌, ap, ℕ, ◌<◌, ℤ, Fields, IsCivil, IsValid}
 
 -- fields stay valid with other nanoseconds
 pub valid_with : (f : Fields) (n : ℕ) → n < 1000000000 → IsValid f → IsValid (record f { nanoseconds = n })

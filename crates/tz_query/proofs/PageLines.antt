@@ -1,13 +1,7 @@
 -- The line of a date time is its year, what stands between year and nanoseconds, nine digits and the suffix of its
 -- type, joined in this order.
-use Rattle.std.proofs.Common.{◌≡◌, ℕ, ◌+◌, ◌≤◌, List, [], ◌∷◌, ◌++◌, length, take, drop, sym, ap, ◌∙◌, arith, append_assoc, length-append, ℤ}
-use Rattle.std.specs.Fmt.{signed_decimal}
-use Rattle.std.proofs.lemmas.List.{length-take-le, take-append-le}
-use Rattle.std.proofs.Math.Seq.{take-append-add}
+use Rattle.tz_query.proofs.Common.{sym, arith, ◌≡◌, [], ap, ◌∷◌, ◌∙◌, ◌++◌, length, ℕ, List, ◌+◌, append_assoc, take, ℤ, Fields, drop, moment_text, ◌≤◌, nine_digits, length-append, length-take-le, signed_decimal, LocalTimeType, suffix_text, date_text, middle_text, offset_text, printed_text, time_text, two_digits, type_name_text, take-append-add, take-append-le}
 use Rattle.std.proofs.lemmas.Slice.{take-put_mid}
-use Rattle.tz_base.specs.declared.fields.Fields.{Fields}
-use Rattle.tz_rule.specs.LocalTimeType.{LocalTimeType}
-use Rattle.tz.specs.PrintedText.{two_digits, nine_digits, date_text, time_text, middle_text, offset_text, printed_text, type_name_text, moment_text, suffix_text}
 use borrow.Rule.Slice.PartMut.{put_mid}
 
 -- the year, what stands between it and the nanoseconds, these and the suffix make the line

@@ -1,32 +1,11 @@
 -- Bytes have one cut into lines, a line has a group of answer lines, and one answer.
-use Rattle.std.proofs.Common.{◌≡◌, ◌≢◌, ℕ, ◌+◌, ◌⊎◌, inl, inr, ℤ, pos, negsuc, List, [], ◌∷◌, ◌++◌, length, get_or, refl, sym, ap, ◌∙◌, subst, arith, append_assoc, length-append}
-use Rattle.std.specs.Prelude.{codes, map}
-use Rattle.std.specs.Fmt.{decimal}
-use Rattle.std.specs.List.{All, AllZip, flat_map}
-use Rattle.std.proofs.Math.Seq.{get_or-append_seam}
-use Rattle.std.proofs.lemmas.Int.{ints}
-use Rattle.std.proofs.lemmas.List.{length-map}
-use Rattle.std.proofs.lemmas.List.Elements.{All-nil, All-cons, All-head, All-tail}
-use Rattle.tz_base.specs.Days.{is_leap, IsDateOf}
-use Rattle.tz_base.specs.declared.fields.Fields.{Fields}
-use Rattle.tz_base.specs.declared.error.TzError.{TzError}
-use Rattle.tz_base.specs.declared.error.TzError.TheVariants.{DateTime as FieldFault, OutOfRange, NoAvailableLocalTimeType}
-use Rattle.tz_base.specs.Fields.{IsCivil}
-use Rattle.tz_zone.specs.Table.{Zone}
-use Rattle.tz_zone.specs.Clock.{IsClock}
-use Rattle.tz.specs.PrintedText.{moment_text}
+use Rattle.tz_query.proofs.Common.{sym, subst, refl, arith, ◌≡◌, [], ap, ◌∷◌, ◌∙◌, ◌++◌, length, ℕ, inl, List, inr, ◌+◌, append_assoc, ℤ, ended, Fields, pos, codes, Zone, get_or, ints, line_feed, IsClock, Search, moment_text, Time, IsLine, All-cons, entry_text, flat_map, All, All-nil, AreAnswers, IsAnswer, IsCivil, IsSearchAnswer, Meeting, OutOfRange, decimal, field_fault_text, map, ◌≢◌, AreWeekAnswers, IsWeekAnswer, TzError, found_lines, length-append, meeting_letter, negsuc, numbers_of, search_letter, ◌⊎◌, All-tail, AllZip, AreLines, AreNumbers, IsCut, IsDateOf, IsFaultText, IsLineOf, IsTimeAnswer, Query, meeting_lines, midnight, time_letter, All-head, IsQueryAnswer, IsQueryLine, NoAvailableLocalTimeType, day_after, IsGroup, IsMeetingAnswer, IsSearchGroup, IsWeekOf, get_or-append_seam, is_leap, length-map}
+use Rattle.tz_base.specs.declared.error.TzError.TheVariants.{DateTime as FieldFault}
 use Rattle.tz_base.proofs.CivilReadings.{month_length-le}
 use Rattle.tz_base.proofs.DateOrder.{civil_unique}
 use Rattle.tz.proofs.PromisedLists.{valid_without_fault}
 use Rattle.tz.proofs.UniqueLists.{found_unique}
 use Rattle.tz.proofs.UniqueResults.{clock_fault_unique, first_fault_unique, no_fault_where_made, no_fault_where_shown, search_fault_unique, shown_unique}
-use Rattle.tz_query.specs.Lines.{line_feed, IsLine, IsCut, AreLines, ended}
-use Rattle.tz_query.specs.Numbers.{AreNumbers}
-use Rattle.tz_query.specs.declared.query.read_query.Query.{Query}
-use Rattle.tz_query.specs.declared.query.read_query.Query.TheVariants.{Time, Search, Meeting}
-use Rattle.tz_query.specs.Queries.{time_letter, search_letter, meeting_letter, IsLineOf, IsQueryLine, numbers_of}
-use Rattle.tz_query.specs.MeetingDates.{IsWeekOf, day_after, midnight}
-use Rattle.tz_query.specs.Answers.{entry_text, field_fault_text, found_lines, meeting_lines, IsFaultText, IsTimeAnswer, IsSearchAnswer, IsWeekAnswer, AreWeekAnswers, IsMeetingAnswer, IsQueryAnswer, IsAnswer, AreAnswers, IsSearchGroup, IsGroup}
 use Rattle.tz_query.proofs.AnswerLines.{no_lines}
 use Rattle.tz_query.proofs.AnswerTexts.{single_refusal, single_time_answer}
 use Rattle.tz_query.proofs.NumberFronts.{parts_in_front, parts_unique}

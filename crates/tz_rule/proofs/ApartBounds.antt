@@ -1,8 +1,5 @@
 -- Two tables whose bounds over all kinds are apart never change their order.
-use Rattle.std.proofs.Common.{◌⊎◌, inl, inr, lit<, arith, ℤ, pos, ◌+ℤ◌, ◌≤ℤ◌, ◌<ℤ◌, List}
-use Rattle.std.proofs.lemmas.Int.{ints}
-use Rattle.tz_rule.specs.Kinds.{first_kind, second_kind}
-use Rattle.tz_rule.specs.YearTables.{AreBounds, ComesFirst, ComesAfterNext, ChangesOrder}
+use Rattle.tz_rule.proofs.Common.{arith, ints, pos, ◌+ℤ◌, ℤ, ◌≤ℤ◌, inl, inr, ◌<ℤ◌, List, ComesFirst, first_kind, ChangesOrder, second_kind, AreBounds, ComesAfterNext, lit<, ◌⊎◌}
 use Rattle.tz_rule.proofs.PairTables.{first_kind-below, second_kind-below, first_days-least}
 
 module _ (a b : List ℤ) (a_low a_high b_low b_high : ℤ) (in_a : AreBounds a a_low a_high)

@@ -1,27 +1,20 @@
 -- A function that casts a `&` to one to another type meets its contract, if the first holds what the second does.
 -- Assumes `Logic`.
-use Rattle.std.proofs.Common.{◌≡◌, ℕ, List, [], ◌∷◌, refl}
+use Rattle.tz_rule.proofs.Common.{◌≡◌, ℕ, refl, List, [], ◌∷◌, !, done, ftrue, hidden_shr, move, nothing, qed, ‵, ◌$◌, ◌∵◌, Body, Callee, Fn, Lft, Val, addr_of, assign, at_ret, block, copy, deref, ent, erased, feq_i, fjoin, flft, fsplit, heard, imm, join, keep, local, lone, named, place, pointee, raw, return, rewrite, rv_opd, seq, split, suffices, ty_ptr, ty_ref, use1, value_local, vptr, ◌⊛◌}
 use Rattle.std.proofs.raw_atomic.Walks.{proved}
 use seplogic.Ra.Ura.{Ura}
-use base.Logic.{ent}
-use base.Fml.{Lft, ftrue, flft}
 use contract.Monad.{fact}
 use contract.Running.{Running, MachineTables, tables}
 use denote.Exit.{yes}
-use denote.Memory.{hidden_shr, lone, pointee}
 use denote.RattleType.{RattleType, owns}
 use denote.Ref.{ShrRef, shr_vals, shr_Tells}
 use denote.Signature.{plain, shr_ref_to}
-use denote.Steps.{nothing, heard}
 use denote.Triple.Clauses.{Ended, Clauses, closing}
 use denote.Triple.Spec.{Meets}
 use denote.Triple.Walked.{Stays, walk_of, stay_dropped, says, ends_at, Goes-dropped}
-use mir.Syntax.{Body, Callee, Fn, ty_ptr, ty_ref, imm, named, erased, local, value_local, block, seq, assign, return, place, deref, addr_of, rv_opd, copy}
-use mir.Val.{Val, vptr}
 use prog.Model.{Model}
 use prog.Wp.{Closed}
 use types.ByLocal.{alloc_all, pass_all, free_all, look_at, get, through, sets, sets_last, env}
-use types.Kit.{‵, ◌⊛◌, raw, at_ret, ◌$◌, ◌∵◌, !, qed, done, move, keep, use1, split, join, rewrite, fsplit, fjoin, feq_i, suffices}
 use types.Logic.{Logic, sem}
 use types.Run.{enter, addr, stop, of_opd, first, blocks, exec, returns}
 

@@ -1,9 +1,5 @@
 -- The type of a rule changes at starts and ends alone, and repeats after 400 years.
-use Rattle.std.proofs.Common.{◌≡◌, inl, inr, ap, arith, ℤ, pos, negsuc, ◌+ℤ◌, ◌≤ℤ◌, ◌<ℤ◌}
-use Rattle.std.proofs.lemmas.Int.{ints, by_lt_z}
-use Rattle.tz_rule.specs.LocalTimeType.{LocalTimeType}
-use Rattle.tz_rule.specs.Alternate.{AlternateTime, start_of, end_of, IsAlternateType, IsUnchanged}
-use Rattle.tz_rule.specs.Pairing.{IsPairedEnd, IsDaylight}
+use Rattle.tz_rule.proofs.Common.{arith, ◌≡◌, ints, pos, ◌+ℤ◌, ℤ, ◌≤ℤ◌, ap, inl, inr, end_of, start_of, ◌<ℤ◌, AlternateTime, by_lt_z, negsuc, IsDaylight, LocalTimeType, IsAlternateType, IsPairedEnd, IsUnchanged}
 use Rattle.tz_rule.proofs.YearlyInstants.{IsYearly}
 
 module _ (f g : ℤ → ℤ) (u v : ℤ) (up : u ≤ℤ v) where

@@ -1,10 +1,6 @@
 -- Daylight saving time lasts through the spans from each start to its end, and not from the end of a span up to the
 -- next start.
-use Rattle.std.proofs.Common.{◌≡◌, inl, inr, Bool, true, false, MatchBool, refl, arith, ℤ, pos, ◌+ℤ◌, ◌≤ℤ◌, ◌<ℤ◌}
-use Rattle.std.proofs.lemmas.Int.{ints, by_lt_z}
-use Rattle.tz_base.proofs.DateOrder.{first_day-mono}
-use Rattle.tz_rule.specs.Alternate.{AlternateTime, start_of, end_of, IsInRuleRange, AreRuleDays, IsUtcYear}
-use Rattle.tz_rule.specs.Pairing.{EndsNextYear, IsPairedEnd, IsDaylight}
+use Rattle.tz_rule.proofs.Common.{arith, ◌≡◌, ints, pos, refl, ◌+ℤ◌, ℤ, ◌≤ℤ◌, Bool, inl, inr, true, end_of, false, start_of, ◌<ℤ◌, AlternateTime, AreRuleDays, IsInRuleRange, by_lt_z, first_day-mono, EndsNextYear, MatchBool, IsDaylight, IsUtcYear, IsPairedEnd}
 use Rattle.tz_rule.proofs.YearlyInstants.{IsYearly, IsYearly-start_of, IsYearly-end_of}
 
 -- two years before the year of an instant everything is over

@@ -1,18 +1,7 @@
 -- The day that a rule day is in a year, in closed form.
-use Rattle.std.proofs.Common.{◌≡◌, ℕ, zero, suc, ◌+◌, ◌-◌, ◌%◌, ◌<◌, ◌≤◌, Bool, true, false, cond, eqb, ltb, ◌&&◌, not, List, [], ◌∷◌, length, get_or, map, refl, ap, ◌∙◌, arith, ℤ, pos, ◌+ℤ◌}
+use Rattle.tz_rule.proofs.Common.{arith, ◌≡◌, ints, pos, ◌∙◌, ℕ, refl, ◌+ℤ◌, ℤ, ◌<◌, ap, ◌+◌, ◌-◌, Bool, true, false, List, ◌≤◌, ◌%◌, get_or, suc, zero, is_leap, Decides-eqb, length, nat_tests, not, ◌&&◌, [], all_below, eqb, passes_at, ◌∷◌, first_day, IsMonthWeek, MonthWeek, MonthWeekDay, cond, month_length-ge, month_length-le, rule_day, same_from_decides, week_day_in_month, week_day_of, year_length-is, Decides-int_eq, Decides-like, Julian0WithLeap, Julian1WithoutLeap, day_number, day_number-is, ltb, month_length, months_length, day_at, days_from, get_or-map, is_leap_day, julian_year_day, length-map, map}
 use Rattle.std.specs.List.{filter}
 use Rattle.std.specs.Ordering.{int_eq}
-use Rattle.std.proofs.lemmas.Bool.Decides.{nat_tests, Decides-eqb, Decides-int_eq, Decides-like, same_from_decides}
-use Rattle.std.proofs.lemmas.Int.{ints}
-use Rattle.std.proofs.lemmas.List.{get_or-map, length-map}
-use Rattle.tz_base.specs.Days.{is_leap, month_length, months_length, first_day, day_number, week_day_of}
-use Rattle.tz_base.proofs.TestsBelow.{all_below, passes_at}
-use Rattle.tz_base.proofs.CivilReadings.{month_length-ge, month_length-le}
-use Rattle.tz_base.proofs.DaysOfYears.{day_number-is, year_length-is}
-use Rattle.tz_rule.specs.RuleDays.{days_from, rule_day, is_leap_day, day_at}
-use Rattle.tz_rule.specs.MonthWeek.{MonthWeek, IsMonthWeek}
-use Rattle.tz_rule.specs.YearDays.{julian_year_day, week_day_in_month}
-use Rattle.tz_rule.specs.declared.timezone.rule_day.RuleDay.TheVariants.{Julian1WithoutLeap, Julian0WithLeap, MonthWeekDay}
 use Rattle.tz_rule.proofs.Weeks.{week_day_of-add, same_pos}
 
 -- this many numbers from k on

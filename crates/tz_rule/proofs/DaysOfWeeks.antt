@@ -1,8 +1,5 @@
 -- The days of a week day of a month, by the week day of the month's first day, are seven in a row.
-use Rattle.std.proofs.Common.{◌≡◌, ◌⊎◌, ℕ, ◌+◌, ◌-◌, ◌*◌, ◌%◌, ◌<◌, ◌≤◌, min, inl, inr, arith}
-use Rattle.std.proofs.lemmas.Bool.{cases_lt}
-use Rattle.std.proofs.lemmas.Bool.Decides.{nat_tests}
-use Rattle.tz_rule.specs.YearDays.{nth_week_day}
+use Rattle.tz_rule.proofs.Common.{arith, ◌≡◌, ℕ, ◌<◌, ◌+◌, ◌-◌, inl, inr, ◌≤◌, ◌%◌, nat_tests, ◌*◌, cases_lt, nth_week_day, ◌⊎◌, min}
 
 -- the least of the days
 abbrev pub least_day : ℕ → ℕ → ℕ

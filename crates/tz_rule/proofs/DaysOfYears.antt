@@ -1,17 +1,6 @@
 -- The day of a rule day in its year is that of all years of one kind.
-use Rattle.std.proofs.Common.{◌≡◌, ℕ, suc, ◌+◌, ◌-◌, ◌%◌, ◌≤◌, Bool, ap, ◌∙◌, arith, ℤ, pos, ◌+ℤ◌}
-use Rattle.std.proofs.lemmas.Bool.Decides.{nat_tests}
-use Rattle.std.proofs.lemmas.Int.{ints}
-use Rattle.tz_base.specs.Days.{is_leap, month_length, months_length, first_day, day_number, week_day_of}
-use Rattle.tz_base.proofs.CivilReadings.{month_length-ge, month_length-le}
-use Rattle.tz_base.proofs.DaysOfYears.{day_number-is, months_length-le_year}
-use Rattle.tz_rule.specs.RuleDays.{rule_day, IsRuleDay}
-use Rattle.tz_rule.specs.MonthWeek.{MonthWeek, IsMonthWeek}
-use Rattle.tz_rule.specs.YearDays.{week_day_in_month, year_day_of}
-use Rattle.tz_rule.specs.declared.timezone.rule_day.RuleDay.{RuleDay}
-use Rattle.tz_rule.specs.declared.timezone.rule_day.RuleDay.TheVariants.{Julian1WithoutLeap, Julian0WithLeap, MonthWeekDay}
+use Rattle.tz_rule.proofs.Common.{arith, ◌≡◌, ints, pos, ◌∙◌, ℕ, ◌+ℤ◌, ℤ, ap, ◌+◌, ◌-◌, Bool, ◌≤◌, ◌%◌, suc, is_leap, year_day_of, nat_tests, week_day_of_year, RuleDay, first_day, IsMonthWeek, IsRuleDay, MonthWeek, MonthWeekDay, month_length-ge, month_length-le, rule_day, week_day_in_month, week_day_of, Julian0WithLeap, Julian1WithoutLeap, day_number, day_number-is, month_length, months_length, months_length-le_year}
 use Rattle.tz_rule.proofs.DaysInLists.{rule_day-julian, rule_day-zero_based, rule_day-month, julian_year_day-bound, week_day_in_month-bound}
-use Rattle.tz_rule.specs.Kinds.{week_day_of_year}
 use Rattle.tz_rule.proofs.Weeks.{week_day_of_year-is, week_day_of-add}
 
 month_begins : (year : ℤ) (month : ℕ) → day_number year month 1

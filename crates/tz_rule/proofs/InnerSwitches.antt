@@ -1,18 +1,6 @@
 -- If all starts and ends are far inside their years, those of the neighbours of an instant's likely year are over or
 -- yet to come.
-use Rattle.std.proofs.Common.{◌≡◌, ℕ, zero, suc, ◌+◌, ◌/◌, ◌<◌, Bool, true, false, not, inl, inr, refl, ap, arith, ℤ, pos, ◌+ℤ◌, ◌-ℤ◌, ◌≤ℤ◌, ◌<ℤ◌, List}
-use Rattle.std.specs.Bool.{OnTrue}
-use Rattle.std.specs.Int.{int_min, int_max}
-use Rattle.std.proofs.lemmas.Bool.{cases_lt}
-use Rattle.std.proofs.lemmas.Int.{ints, int_min_is, int_max_is}
-use Rattle.tz_base.specs.Cycles.{days_of_years}
-use Rattle.tz_base.proofs.DateOrder.{first_day-mono}
-use Rattle.tz_base.proofs.YearStarts.{first_day-moved}
-use Rattle.tz_rule.specs.Alternate.{AlternateTime, start_of, end_of, switch_of, AreRuleDays}
-use Rattle.tz_rule.specs.LikelyYears.{IsInnerSwitch, HasInnerSwitches, IsLikelyYear, IsDeterminingYear}
-use Rattle.tz_rule.specs.Kinds.{year_kind}
-use Rattle.tz_rule.specs.RuleInside.{switches_are_inner}
-use Rattle.tz_rule.specs.YearTables.{IsTableOf, entry, least_entry, greatest_entry, is_inner, start_table, end_table}
+use Rattle.tz_rule.proofs.Common.{arith, ◌≡◌, ints, pos, ℕ, refl, ◌+ℤ◌, ℤ, ◌<◌, ◌≤ℤ◌, ap, ◌-ℤ◌, ◌+◌, Bool, inl, inr, true, end_of, entry, false, start_of, ◌<ℤ◌, AlternateTime, List, AreRuleDays, suc, zero, end_table, first_day-mono, not, start_table, switch_of, year_kind, IsTableOf, cases_lt, days_of_years, greatest_entry, least_entry, first_day-moved, int_max, int_min, is_inner, ◌/◌, HasInnerSwitches, IsDeterminingYear, IsLikelyYear, OnTrue, switches_are_inner, IsInnerSwitch, int_max_is, int_min_is}
 use Rattle.tz_rule.proofs.OrderByTables.{IsTableOf-start_of, IsTableOf-end_of}
 use Rattle.tz_rule.proofs.PairKinds.{year_kind-below}
 

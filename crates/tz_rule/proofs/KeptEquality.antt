@@ -1,11 +1,6 @@
 -- Equality of what is kept is equality of what is shown.
-use Rattle.std.proofs.Common.{◌≡◌, refl, ap, sym, ◌∙◌, bytes_eq, Decides}
-use Rattle.std.specs.Option.{option_eq}
-use Rattle.std.proofs.lemmas.Bool.Decides.{same_from_decides, Decides-eqb, Decides-int_eq, Decides-like}
-use Rattle.tz_rule.specs.Designation.{IsKept, IsKeptType, kept, stored_name, kept_stored_name, shown, word_of, same_designation}
+use Rattle.tz_rule.proofs.Common.{◌≡◌, ◌∙◌, refl, sym, ap, Decides-eqb, Decides, Decides-beq, same_from_decides, Decides-int_eq, Decides-like, Designation, IsKept, kept, word_of, Decides-name, IsKeptType, bytes_eq, kept_stored_name, option_eq, same_designation, same_type, shown, stored_name}
 use Rattle.tz_rule.proofs.NameWords.{same_word}
-use Rattle.tz_rule.specs.Same.{same_type, Decides-beq, Decides-name}
-use Rattle.tz_rule.specs.declared.timezone.local_time_type.Designation.{Designation}
 use Rattle.tz_rule.specs.declared.timezone.local_time_type.LocalTimeType.TheInside.{Inside}
 
 Decides-words : (d e : Designation) → IsKept d → IsKept e → Decides (same_designation d e) (d ≡ e)

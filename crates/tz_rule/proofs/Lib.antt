@@ -1,3 +1,4 @@
+mod Common
 pub mod Weeks
 pub mod DaysInLists
 pub mod DaysOfWeeks

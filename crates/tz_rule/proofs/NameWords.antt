@@ -1,11 +1,8 @@
 -- A number of eight bytes has the bytes as its digits, so what keeps a name is determined by its word.
-use Rattle.std.proofs.Common.{◌≡◌, ℕ, zero, suc, ◌-◌, ◌<◌, ◌≤◌, List, ◌∷◌, [], ◌++◌, ◌∙◌, refl, ap, sym, subst, arith, length, get_or, take, replicate, All, length-append}
-use Rattle.std.specs.Int.{w64, to_le_bytes}
+use Rattle.tz_rule.proofs.Common.{arith, ◌≡◌, ◌∙◌, ℕ, refl, sym, ◌<◌, ap, ◌-◌, List, ◌≤◌, get_or, suc, zero, length, [], subst, ◌∷◌, IsDesignationByte, All, Designation, IsDesignation, IsKept, replicate, take, word_of, length-append, seven_bytes, to_le_bytes, ◌++◌}
+use Rattle.std.specs.Int.{w64}
 use Rattle.std.proofs.Math.Seq.{take-append_seam, get_or-append_seam}
 use Rattle.std.proofs.lemmas.Nat.{le_bytes_8}
-use Rattle.tz_rule.specs.LocalTimeType.{IsDesignationByte, IsDesignation}
-use Rattle.tz_rule.specs.Designation.{IsKept, word_of, seven_bytes}
-use Rattle.tz_rule.specs.declared.timezone.local_time_type.Designation.{Designation}
 
 abbrev AreBytes : List ℕ → Type 0
 AreBytes xs = (i : ℕ) → get_or xs i 0 < 256

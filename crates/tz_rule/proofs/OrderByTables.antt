@@ -1,16 +1,5 @@
 -- The tables of starts and ends determine what their years determine: which comes first, and whether the order changes.
-use Rattle.std.proofs.Common.{◌≡◌, inl, inr, ℕ, sym, ap, ◌∙◌, subst, arith, ℤ, pos, negsuc, ◌+ℤ◌, ◌-ℤ◌, ◌<ℤ◌, List}
-use Rattle.std.proofs.lemmas.Int.{ints}
-use Rattle.std.proofs.lemmas.List.FromFn.{length-map-range_with_len, get_or-map-range_with_len}
-use Rattle.tz_base.specs.Days.{is_leap}
-use Rattle.tz_base.proofs.DaysOfYears.{first_day-next}
-use Rattle.tz_rule.specs.Alternate.{AlternateTime, start_of, end_of, IsInRuleRange, IsConsistentRule, AreRuleDays}
-use Rattle.tz_rule.specs.RuleDays.{IsRuleDay}
-use Rattle.tz_rule.specs.Kinds.{year_kind, is_leap_kind, week_day_of_kind, first_kind, IsPairOf}
-use Rattle.tz_rule.specs.YearDays.{year_day_of}
-use Rattle.tz_rule.specs.Pairing.{IsConflict, IsInconsistent}
-use Rattle.tz_rule.specs.YearTables.{IsTableOf, entry, next_entry, seconds_in_kind, day_table, start_table, end_table, ComesFirst, ComesBeforeNext, ComesAfterNext, ChangesOrder}
-use Rattle.tz_rule.specs.declared.timezone.rule_day.RuleDay.{RuleDay}
+use Rattle.tz_rule.proofs.Common.{arith, ◌≡◌, ints, pos, ◌∙◌, ℕ, ◌+ℤ◌, ℤ, sym, ap, ◌-ℤ◌, inl, inr, end_of, entry, start_of, ◌<ℤ◌, AlternateTime, List, AreRuleDays, IsInRuleRange, is_leap, negsuc, year_day_of, ComesFirst, end_table, first_kind, start_table, day_table, subst, year_kind, IsConflict, IsTableOf, RuleDay, ChangesOrder, IsInconsistent, IsRuleDay, first_day-next, next_entry, ComesAfterNext, ComesBeforeNext, IsPairOf, is_leap_kind, seconds_in_kind, week_day_of_kind, IsConsistentRule, get_or-map-range_with_len, length-map-range_with_len}
 use Rattle.tz_rule.proofs.PairKinds.{year_kind-below, year_kind-leap, year_kind-week_day, pair_of, pair_occurs, kind_occurs}
 use Rattle.tz_rule.proofs.YearlyInstants.{IsYearly, year_day_in, local_instant, local_instant-is, IsYearly-start_of, IsYearly-end_of, consistent_from_near, none_near}
 

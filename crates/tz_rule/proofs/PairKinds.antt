@@ -1,12 +1,5 @@
 -- Each year has one of 14 kinds, and with the next year one of 21 pair kinds, and each of these occurs.
-use Rattle.std.proofs.Common.{◌≡◌, ℕ, ◌+◌, ◌%◌, ◌<◌, Bool, true, false, cond, ltb, eqb, ◌&&◌, refl, sym, ap, ◌∙◌, arith, ℤ, pos, ◌+ℤ◌}
-use Rattle.std.proofs.lemmas.Bool.Decides.{nat_tests, Decides-eqb, Decides-and}
-use Rattle.std.proofs.lemmas.Int.{ints}
-use Rattle.tz_base.specs.Cycles.{days_of_years}
-use Rattle.tz_base.specs.Days.{is_leap, year_length}
-use Rattle.tz_base.proofs.DaysOfYears.{year_length-is}
-use Rattle.tz_base.proofs.TestsBelow.{all_below, passes_at}
-use Rattle.tz_rule.specs.Kinds.{week_day_of_year, kind_of, year_kind, is_leap_kind, week_day_of_kind, first_kind, second_kind, first_days, IsPairOf}
+use Rattle.tz_rule.proofs.Common.{arith, ◌≡◌, ints, pos, ◌∙◌, ℕ, refl, ◌+ℤ◌, ℤ, sym, ◌<◌, ap, ◌+◌, Bool, true, false, ◌%◌, is_leap, Decides-eqb, first_kind, nat_tests, week_day_of_year, ◌&&◌, all_below, eqb, passes_at, year_kind, days_of_years, kind_of, cond, second_kind, year_length, year_length-is, Decides-and, IsPairOf, first_days, is_leap_kind, ltb, week_day_of_kind}
 use Rattle.tz_rule.proofs.Weeks.{week_day_of_year-is, week_day_of_year-next, week_day_of_year-moved}
 use Rattle.tz_rule.proofs.YearKinds.{any_below, found_below, first_week_day, like_model}
 

@@ -1,8 +1,5 @@
 -- The tables of pair kinds have the kinds of both years, and each of the two years has a kind.
-use Rattle.std.proofs.Common.{◌≡◌, ℕ, ◌<◌, ◌≤◌, true, eqb, get_or, refl, arith}
-use Rattle.std.proofs.lemmas.Bool.Decides.{nat_tests, Decides-eqb}
-use Rattle.tz_base.proofs.TestsBelow.{all_below, passes_at}
-use Rattle.tz_rule.specs.Kinds.{first_kind, second_kind, first_days}
+use Rattle.tz_rule.proofs.Common.{arith, ◌≡◌, ℕ, refl, ◌<◌, true, ◌≤◌, get_or, Decides-eqb, first_kind, nat_tests, all_below, eqb, passes_at, second_kind, first_days}
 use Rattle.tz_rule.specs.declared.timezone.consistency.TheConstants.{FIRST_KINDS, SECOND_KINDS}
 
 are_first_kinds : all_below (λ pair. eqb (get_or FIRST_KINDS pair 0) (first_kind pair)) 21 ≡ true

@@ -1,10 +1,6 @@
 -- The years in which the tables of a rule conflict are those in which its starts and ends do.
-use Rattle.std.proofs.Common.{◌≡◌, ℤ, List, Option}
+use Rattle.tz_rule.proofs.Common.{◌≡◌, ℤ, end_of, start_of, AlternateTime, List, AreRuleDays, IsInRuleRange, end_table, start_table, instant_in, IsConflict, IsInconsistent, IsNear, Option, IfNone, IfSome}
 use Rattle.std.proofs.lemmas.Option.{IfSome_then}
-use Rattle.std.specs.Option.{IfSome, IfNone}
-use Rattle.tz_rule.specs.Alternate.{AlternateTime, start_of, end_of, IsInRuleRange, AreRuleDays}
-use Rattle.tz_rule.specs.Pairing.{IsConflict, IsInconsistent}
-use Rattle.tz_rule.specs.YearTables.{IsNear, instant_in, start_table, end_table}
 use Rattle.tz_rule.proofs.OrderByTables.{IsTableOf-start_of, IsTableOf-end_of}
 use Rattle.tz_rule.proofs.WeakerClauses.{IfNone-weaker}
 use Rattle.tz_rule.proofs.YearlyInstants.{IsYearly-start_of, IsYearly-end_of, consistent_from_near}

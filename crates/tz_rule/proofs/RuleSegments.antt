@@ -1,15 +1,6 @@
 -- From one start or end up to the next a rule has one type, and those of a year and its neighbours are around an
 -- instant near the year.
-use Rattle.std.proofs.Common.{◌≡◌, inl, inr, ℕ, zero, suc, Bool, true, false, not, MatchBool, refl, ap, arith, ℤ, pos, negsuc, ◌+ℤ◌, ◌-ℤ◌, ◌≤ℤ◌, ◌<ℤ◌}
-use Rattle.std.specs.Int.{int_min, int_max}
-use Rattle.std.proofs.lemmas.Int.{ints, clamps, by_lt_z}
-use Rattle.tz_base.proofs.DateOrder.{first_day-mono}
-use Rattle.tz_rule.specs.Alternate.{AlternateTime, start_of, end_of, switch_of, IsInRuleRange, AreRuleDays, IsUtcYear, IsInRuleYears, IsAlternateType}
-use Rattle.tz_rule.specs.LocalTimeType.{LocalTimeType}
-use Rattle.tz_rule.specs.LikelyYears.{IsTriedYear, IsDeterminingYear}
-use Rattle.tz_rule.specs.Rule.{IsRuleType}
-use Rattle.tz_rule.specs.RuleSegments.{type_by, IsSwitch, IsSwitchSegment, IsWholeSegment}
-use Rattle.tz_rule.specs.Pairing.{EndsNextYear, IsDaylight}
+use Rattle.tz_rule.proofs.Common.{arith, ◌≡◌, ints, pos, ℕ, refl, ◌+ℤ◌, ℤ, ◌≤ℤ◌, ap, ◌-ℤ◌, Bool, inl, inr, true, end_of, false, start_of, ◌<ℤ◌, AlternateTime, AreRuleDays, suc, IsInRuleRange, zero, by_lt_z, negsuc, IsRuleType, first_day-mono, not, EndsNextYear, MatchBool, switch_of, IsDaylight, LocalTimeType, IsAlternateType, IsInRuleYears, IsUtcYear, clamps, int_max, int_min, IsDeterminingYear, IsTriedYear, IsWholeSegment, type_by, IsSwitch, IsSwitchSegment}
 use Rattle.tz_rule.specs.declared.timezone.rule_segments.AlternateSegment.{AlternateSegment}
 use Rattle.tz_rule.proofs.DaylightSpans.{over, to_come, daylight_in_span, no_daylight_between_spans}
 use Rattle.tz_rule.proofs.YearlyInstants.{year_start, IsYearly-switch_of}

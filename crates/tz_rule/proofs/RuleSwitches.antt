@@ -1,15 +1,7 @@
 -- If a rule's switches are far inside their years, the switches of the likely year and of one neighbour determine the
 -- next change and the last one.
-use Rattle.std.proofs.Common.{sym, ◌≡◌, refl, arith, Bool, not, MatchBool, ℤ, pos, ◌+ℤ◌, ◌-ℤ◌, ◌≤ℤ◌, ◌<ℤ◌}
+use Rattle.tz_rule.proofs.Common.{arith, ◌≡◌, ints, pos, refl, ◌+ℤ◌, ℤ, sym, ◌≤ℤ◌, ◌-ℤ◌, Bool, end_of, start_of, ◌<ℤ◌, AlternateTime, AreRuleDays, IsInRuleRange, first_day-mono, not, EndsNextYear, MatchBool, switch_of, HasInnerSwitches, IsLikelyYear, IsSwitchAfter, IsSwitchUpTo, IsTriedYear, IsWholeSegment}
 use Rattle.std.proofs.Math.Bool.{not-not}
-use Rattle.std.proofs.lemmas.Int.{ints}
-use Rattle.tz_base.proofs.DateOrder.{first_day-mono}
-use Rattle.tz_rule.specs.Alternate.{AlternateTime, start_of, end_of, switch_of, IsInRuleRange, AreRuleDays}
-use Rattle.tz_rule.specs.LikelyYears.{IsTriedYear}
-use Rattle.tz_rule.specs.LikelyYears.{HasInnerSwitches, IsLikelyYear}
-use Rattle.tz_rule.specs.Pairing.{EndsNextYear}
-use Rattle.tz_rule.specs.RuleChanges.{IsSwitchAfter, IsSwitchUpTo}
-use Rattle.tz_rule.specs.RuleSegments.{IsWholeSegment}
 use Rattle.tz_rule.proofs.InnerSwitches.{over_before_likely, to_come_after_likely}
 use Rattle.tz_rule.proofs.RuleSegments.{IsBeside, years_around, segment_between_years, segment_in_year, tried_segment}
 

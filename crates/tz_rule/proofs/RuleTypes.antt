@@ -1,11 +1,6 @@
 -- A rule has one type at an instant, and an alternate rule has one in all its years. It repeats after 400 years.
-use Rattle.std.proofs.Common.{◌≡◌, inl, inr, ◌∙◌, refl, sym, ℤ, pos, ◌+ℤ◌}
-use Rattle.tz_rule.specs.LocalTimeType.{LocalTimeType}
-use Rattle.tz_rule.specs.Alternate.{AlternateTime, start_of, end_of, IsInRuleRange, AreRuleDays, IsInRuleYears, IsAlternateType}
-use Rattle.tz_rule.specs.RuleInside.{ends_come_first}
-use Rattle.tz_rule.specs.Rule.{IsRuleType, IsSoundRule}
-use Rattle.tz_rule.specs.declared.timezone.transition_rule.TransitionRule.{TransitionRule}
-use Rattle.tz_rule.specs.declared.timezone.transition_rule.TransitionRule.TheVariants.{Fixed, Alternate as Two}
+use Rattle.tz_rule.proofs.Common.{◌≡◌, pos, ◌∙◌, refl, ◌+ℤ◌, ℤ, sym, inl, inr, end_of, start_of, AlternateTime, AreRuleDays, IsInRuleRange, IsRuleType, LocalTimeType, IsAlternateType, IsInRuleYears, Fixed, TransitionRule, ends_come_first, IsSoundRule}
+use Rattle.tz_rule.specs.declared.timezone.transition_rule.TransitionRule.TheVariants.{Alternate as Two}
 use Rattle.tz_rule.proofs.ChangePoints.{daylight_repeats, daylight_repeated}
 use Rattle.tz_rule.proofs.RuleSegments.{alternate_type_total}
 use Rattle.tz_rule.proofs.RulesAcrossYears.{MatchBool-ends_come_first}

@@ -1,16 +1,7 @@
 -- How the next change of a rule is found from segment to segment, or by the switch next to an instant.
-use Rattle.std.proofs.Common.{◌≡◌, ◌≢◌, ◌∙◌, sym, arith, rules, Bool, true, false, not, ℤ, pos, negsuc, ◌+ℤ◌, ◌-ℤ◌, ◌≤ℤ◌, ◌<ℤ◌, Option, Some, None}
-use Rattle.std.specs.Prelude.{MatchOption}
+use Rattle.tz_rule.proofs.Common.{arith, ◌≡◌, ints, pos, ◌∙◌, ◌+ℤ◌, ℤ, sym, ◌≤ℤ◌, ◌-ℤ◌, rules, Bool, true, false, ◌<ℤ◌, AlternateTime, by_lt_z, negsuc, Alternate, IsRuleType, not, LocalTimeType, HasNoTypeChange, Option, Fixed, HasOneType, IsSwitchAfter, IsSwitchUpTo, Some, TransitionRule, first_day_bounds, type_by, HasNoChangeAfter, HasNoChangeUpTo, IsChangeAfter, IsChangeUpTo, IsTypeChange, MatchOption, TypeChange, ◌≢◌}
+use Rattle.std.proofs.Common.{None}
 use Rattle.std.specs.Borrow.{Bor}
-use Rattle.std.proofs.lemmas.Int.{ints, by_lt_z}
-use Rattle.tz_base.proofs.DaysOfYears.{first_day_bounds}
-use Rattle.tz_rule.specs.LocalTimeType.{LocalTimeType}
-use Rattle.tz_rule.specs.Alternate.{AlternateTime}
-use Rattle.tz_rule.specs.RuleSegments.{type_by}
-use Rattle.tz_rule.specs.Rule.{IsRuleType}
-use Rattle.tz_rule.specs.RuleChanges.{TypeChange, IsTypeChange, HasNoTypeChange, IsChangeAfter, IsChangeUpTo, HasNoChangeAfter, HasNoChangeUpTo, HasOneType, IsSwitchAfter, IsSwitchUpTo}
-use Rattle.tz_rule.specs.declared.timezone.transition_rule.TransitionRule.{TransitionRule}
-use Rattle.tz_rule.specs.declared.timezone.transition_rule.TransitionRule.TheVariants.{Fixed, Alternate}
 use Rattle.tz_rule.proofs.RuleSegments.{IsInRuleYears-bounds}
 use Rattle.tz_rule.proofs.RuleTypes.{rule_type_unique}
 

@@ -1,14 +1,5 @@
 -- The kinds of years determine whether a rule ends in the next year.
-use Rattle.std.proofs.Common.{◌≡◌, ◌&&◌, Bool, refl, sym, arith, ℤ, ◌<ℤ◌, Decides, ◌∙◌, MatchBool}
-use Rattle.std.specs.Int.Signed.{lt_z}
-use Rattle.std.proofs.lemmas.Bool.{false≢true}
-use Rattle.std.proofs.lemmas.Bool.Decides.{Decides-below_or, same_from_decides}
-use Rattle.std.proofs.lemmas.Int.{ints}
-use Rattle.tz_rule.specs.Alternate.{AlternateTime, start_of, end_of, IsInRuleRange, AreRuleDays}
-use Rattle.tz_rule.specs.RuleInside.{ends_first_in, ends_come_first, switches_are_inner, IsRuleInside}
-use Rattle.tz_rule.specs.Parts.{rule_of}
-use Rattle.tz_rule.specs.Pairing.{EndsNextYear}
-use Rattle.tz_rule.specs.YearTables.{entry, is_inner, start_table, end_table, ComesFirst, ChangesOrder}
+use Rattle.tz_rule.proofs.Common.{arith, ◌≡◌, ints, ◌∙◌, refl, ℤ, sym, Bool, end_of, entry, start_of, ◌<ℤ◌, AlternateTime, AreRuleDays, IsInRuleRange, ComesFirst, end_table, start_table, ◌&&◌, EndsNextYear, MatchBool, Decides, ChangesOrder, false≢true, is_inner, rule_of, same_from_decides, Decides-below_or, IsRuleInside, ends_come_first, lt_z, switches_are_inner, ends_first_in}
 use Rattle.tz_rule.specs.declared.timezone.alternate_time.AlternateData.TheInside.{Inside}
 use Rattle.tz_rule.proofs.OrderByTables.{IsTableOf-start_of, IsTableOf-end_of, comes_first-year, comes_first-from, rule_is_consistent}
 use Rattle.tz_rule.proofs.WeakerClauses.{Decides-from_clause, MatchBool-by_test}

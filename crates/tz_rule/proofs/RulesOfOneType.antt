@@ -1,12 +1,5 @@
 -- A rule whose daylight saving time never begins before it ends, or never ends before it begins again, has one type.
-use Rattle.std.proofs.Common.{◌≡◌, ◌∙◌, inl, inr, refl, sym, true, false, arith, ℕ, zero, suc, ℤ, pos, ◌+ℤ◌, ◌-ℤ◌, ◌≤ℤ◌, ◌<ℤ◌, List}
-use Rattle.std.proofs.lemmas.Int.{ints, by_lt_z}
-use Rattle.tz_rule.specs.Alternate.{AlternateTime, start_of, end_of, IsInRuleRange, AreRuleDays, IsInRuleYears}
-use Rattle.tz_rule.specs.Pairing.{EndsNextYear, IsDaylight}
-use Rattle.tz_rule.specs.Rule.{IsRuleType}
-use Rattle.tz_rule.specs.RuleChanges.{HasOneType}
-use Rattle.tz_rule.specs.YearTables.{IsTableOf, ComesFirst, ComesBeforeNext}
-use Rattle.tz_rule.specs.declared.timezone.transition_rule.TransitionRule.TheVariants.{Alternate}
+use Rattle.tz_rule.proofs.Common.{arith, ◌≡◌, ints, pos, ◌∙◌, ℕ, refl, ◌+ℤ◌, ℤ, sym, ◌≤ℤ◌, ◌-ℤ◌, inl, inr, true, end_of, false, start_of, ◌<ℤ◌, AlternateTime, List, AreRuleDays, suc, IsInRuleRange, zero, by_lt_z, Alternate, ComesFirst, IsRuleType, EndsNextYear, IsDaylight, IsTableOf, IsInRuleYears, ComesBeforeNext, HasOneType}
 use Rattle.tz_rule.proofs.DaylightSpans.{over, to_come, paired_end-unique}
 use Rattle.tz_rule.proofs.OrderByTables.{comes_first-from, comes_before_next-from}
 use Rattle.tz_rule.proofs.YearlyInstants.{IsYearly, IsYearly-start_of, IsYearly-end_of}

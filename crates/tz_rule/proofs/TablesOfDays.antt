@@ -1,11 +1,5 @@
 -- The table of a day is made of its days in the years of each kind.
-use Rattle.std.proofs.Common.{◌≡◌, ℕ, ◌+◌, ◌-◌, ◌*◌, ◌<◌, Bool, true, false, refl, inl, inr, length, get_or, sym, ap, ◌∙◌, arith, ℤ, pos, ◌+ℤ◌, List}
-use Rattle.std.proofs.lemmas.Bool.{cases_lt}
-use Rattle.std.proofs.lemmas.List.FromFn.{fill_by_all}
-use Rattle.tz_rule.specs.Kinds.{kind_of}
-use Rattle.tz_rule.specs.YearDays.{year_day_of}
-use Rattle.tz_rule.specs.YearTables.{entry, seconds_in_kind, day_table}
-use Rattle.tz_rule.specs.declared.timezone.rule_day.RuleDay.{RuleDay}
+use Rattle.tz_rule.proofs.Common.{arith, ◌≡◌, pos, ◌∙◌, ℕ, refl, ◌+ℤ◌, ℤ, sym, ◌<◌, ap, ◌+◌, ◌-◌, Bool, inl, inr, true, entry, false, List, get_or, year_day_of, length, day_table, ◌*◌, RuleDay, cases_lt, kind_of, seconds_in_kind, fill_by_all}
 use Rattle.tz_rule.proofs.PairKinds.{kind_of-parts}
 
 seconds_in_kind-is : (d : RuleDay) (seconds : ℤ) (leap : Bool) (w : ℕ) → w < 7

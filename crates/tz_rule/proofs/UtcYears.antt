@@ -1,13 +1,7 @@
 -- The year of an instant in UTC.
-use Rattle.std.proofs.Common.{◌≤ℤ◌, ◌≡◌, ℕ, arith, ℤ, pos, negsuc, ◌+ℤ◌, ◌<ℤ◌}
-use Rattle.std.proofs.lemmas.Int.{ints, by_lt_z}
-use mir.Syntax.{w32}
-use mir.Val.{SFits}
+use Rattle.tz_rule.proofs.Common.{arith, ◌≡◌, ints, pos, ℕ, ◌+ℤ◌, ℤ, ◌≤ℤ◌, ◌<ℤ◌, w32, by_lt_z, negsuc, first_day-mono, IsUtcYear, SFits, first_day_bounds, IsRuleYear, day_in_year}
 use Rattle.tz_base.specs.Fields.{IsCivil, IsReading}
 use Rattle.tz_base.specs.declared.fields.Fields.{Fields}
-use Rattle.tz_base.proofs.DaysOfYears.{day_in_year, first_day_bounds}
-use Rattle.tz_base.proofs.DateOrder.{first_day-mono}
-use Rattle.tz_rule.specs.Alternate.{IsUtcYear, IsRuleYear}
 
 pub IsUtcYear-from_civil : (u : ℤ) (n : ℕ) (f : Fields) → IsCivil u n f → IsUtcYear u f.year
 IsUtcYear-from_civil u n f c =

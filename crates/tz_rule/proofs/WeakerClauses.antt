@@ -1,10 +1,6 @@
 -- What follows from a clause on a result holds for the result.
-use Rattle.std.proofs.Common.{Decides, ◌≡◌, Bool, true, false, not, Option, Some, None, MatchBool, refl, arith, ℤ, ◌≤ℤ◌, ◌<ℤ◌}
-use Rattle.std.specs.Bool.{OnTrue}
-use Rattle.std.specs.Int.Signed.{lt_z}
-use Rattle.std.specs.Option.{IfNone, IfSome}
-use Rattle.std.proofs.lemmas.Bool.{false≢true}
-use Rattle.std.proofs.lemmas.Int.{ints}
+use Rattle.tz_rule.proofs.Common.{arith, ◌≡◌, ints, refl, ℤ, ◌≤ℤ◌, Bool, true, false, ◌<ℤ◌, not, MatchBool, Decides, Option, false≢true, IfNone, IfSome, OnTrue, Some, lt_z}
+use Rattle.std.proofs.Common.{None}
 
 pub IfSome-weaker : {T : Type 0} {P Q : T → Type 0} (o : Option T) → ((x : T) → P x → Q x) → IfSome o P → IfSome o Q
 IfSome-weaker None f h = tt

@@ -1,13 +1,6 @@
 -- Week days of days that follow one another, and of January 1st.
-use Rattle.std.proofs.Common.{◌≡◌, ℕ, ◌+◌, ◌*◌, ◌%◌, ◌<◌, refl, ap, sym, ◌∙◌, arith, lit<, ℤ, pos, ◌+ℤ◌}
-use Rattle.std.proofs.lemmas.Int.{ints, int_rem_euclid_is}
+use Rattle.tz_rule.proofs.Common.{arith, ◌≡◌, ints, pos, ◌∙◌, ℕ, refl, ◌+ℤ◌, ℤ, sym, ◌<◌, ap, ◌+◌, ◌%◌, week_day_of_year, ◌*◌, days_of_years, first_day, first_day-moved, first_day-next, week_day_of, year_length, first_day-period, lit<, int_rem_euclid_is, week_day_of-period, weeks_before}
 use Rattle.std.specs.Int.RustNames.{unsigned_abs}
-use Rattle.tz_base.specs.Cycles.{days_of_years}
-use Rattle.tz_base.specs.Days.{first_day, week_day_of, year_length}
-use Rattle.tz_rule.specs.Kinds.{week_day_of_year}
-use Rattle.tz_base.proofs.DaysOfYears.{first_day-next}
-use Rattle.tz_base.proofs.DateOrder.{weeks_before, first_day-period, week_day_of-period}
-use Rattle.tz_base.proofs.YearStarts.{first_day-moved}
 
 remainder : (day : ℤ) → (m : ℕ) × (week_day_of day ≡ pos (m % 7))
     × ((i : ℕ) → week_day_of (day +ℤ pos i) ≡ pos ((m + i) % 7))

@@ -1,15 +1,5 @@
 -- Each year has the kind of one of 1972 to 1999, and so has the year after it.
-use Rattle.std.proofs.Common.{◌≡◌, ℕ, zero, suc, ◌+◌, ◌/◌, ◌%◌, ◌<◌, Bool, true, false, eqb, ◌&&◌, ◌||◌, refl, sym, ap, ◌∙◌, arith, ℤ, pos, ◌+ℤ◌}
-use Rattle.std.specs.Bool.{beq}
-use Rattle.std.proofs.lemmas.Bool.Decides.{Decides-eqb, Decides-and, Decides-below_or}
-use Rattle.std.proofs.lemmas.Int.{ints}
-use Rattle.tz_base.specs.Cycles.{days_of_years}
-use Rattle.tz_base.specs.Days.{is_leap}
-use Rattle.tz_base.proofs.TestsBelow.{all_below, passes_at}
-use Rattle.tz_base.proofs.YearStarts.{is_leap-moved}
-use Rattle.tz_base.proofs.DateOrder.{moved_together}
-use Rattle.tz_rule.specs.Same.{Decides-beq}
-use Rattle.tz_rule.specs.Kinds.{week_day_of_year}
+use Rattle.tz_rule.proofs.Common.{arith, ◌≡◌, ints, pos, ◌∙◌, ℕ, refl, ◌+ℤ◌, ℤ, sym, ◌<◌, ap, ◌+◌, Bool, true, false, ◌%◌, suc, zero, is_leap, Decides-eqb, week_day_of_year, ◌&&◌, all_below, eqb, passes_at, Decides-beq, days_of_years, ◌/◌, Decides-and, Decides-below_or, beq, is_leap-moved, ◌||◌, moved_together}
 use Rattle.tz_rule.proofs.Weeks.{week_day_of_year-moved}
 
 -- two years are alike, with the years after them: both are leap or not, and begin on one week day

@@ -1,15 +1,5 @@
 -- What the starts and the ends of a rule have in common, and what follows for their order.
-use Rattle.std.proofs.Common.{◌≤ℤ◌, ◌≡◌, ℕ, zero, suc, ◌*◌, ◌≤◌, Bool, true, false, ap, ◌∙◌, arith, ℤ, pos, negsuc, ◌+ℤ◌, ◌-ℤ◌, ◌*ℤ◌, ◌<ℤ◌}
-use Rattle.std.proofs.lemmas.Int.{ints, by_lt_z}
-use Rattle.tz_base.specs.Days.{is_leap, first_day}
-use Rattle.tz_base.proofs.DateOrder.{first_day-mono, first_day-period, is_leap-period}
-use Rattle.tz_rule.specs.Alternate.{AlternateTime, start_of, end_of, switch_of, AreRuleDays, IsRuleOffset, IsRuleTime, IsInRuleRange, IsNearYear}
-use Rattle.tz_rule.specs.RuleDays.{rule_day, IsRuleDay}
-use Rattle.tz_rule.specs.Kinds.{week_day_of_year}
-use Rattle.tz_rule.specs.YearDays.{year_day_of}
-use Rattle.tz_rule.specs.Pairing.{IsConflict, IsInconsistent}
-use Rattle.tz_rule.specs.YearTables.{IsNear}
-use Rattle.tz_rule.specs.declared.timezone.rule_day.RuleDay.{RuleDay}
+use Rattle.tz_rule.proofs.Common.{arith, ◌≡◌, ints, pos, ◌∙◌, ℕ, ◌+ℤ◌, ℤ, ◌≤ℤ◌, ap, ◌-ℤ◌, Bool, true, end_of, false, start_of, ◌<ℤ◌, AlternateTime, ◌≤◌, AreRuleDays, suc, IsInRuleRange, zero, by_lt_z, is_leap, negsuc, year_day_of, first_day-mono, week_day_of_year, switch_of, ◌*◌, IsConflict, RuleDay, first_day, IsInconsistent, IsNear, IsRuleDay, rule_day, first_day-period, IsNearYear, IsRuleOffset, IsRuleTime, is_leap-period, ◌*ℤ◌}
 use Rattle.tz_rule.proofs.Weeks.{week_day_of_year-period}
 use Rattle.tz_rule.proofs.DaysOfYears.{year_day_of-bound, rule_day-year_day}
 

@@ -1,12 +1,6 @@
 -- How far an instant of a year by one table is from that of a year near by, by another table: as far as for one of the
 -- years from 1972 to 2000.
-use Rattle.std.proofs.Common.{◌≡◌, ℕ, zero, suc, ◌+◌, ◌%◌, ◌<◌, cond, sym, ap, ◌∙◌, arith, ℤ, pos, negsuc, ◌+ℤ◌, ◌-ℤ◌, ◌≤ℤ◌, List}
-use Rattle.std.proofs.lemmas.Int.{ints}
-use Rattle.tz_base.specs.Days.{is_leap, year_length}
-use Rattle.tz_base.proofs.DaysOfYears.{first_day-next, year_length-is}
-use Rattle.tz_rule.specs.Kinds.{week_day_of_year, kind_of, year_kind}
-use Rattle.tz_rule.specs.Pairing.{IsConflict}
-use Rattle.tz_rule.specs.YearTables.{IsTableOf, IsNear, instant_in, entry}
+use Rattle.tz_rule.proofs.Common.{arith, ◌≡◌, ints, pos, ◌∙◌, ℕ, ◌+ℤ◌, ℤ, sym, ◌<◌, ◌≤ℤ◌, ap, ◌-ℤ◌, ◌+◌, entry, List, ◌%◌, suc, zero, is_leap, negsuc, week_day_of_year, instant_in, year_kind, IsConflict, IsTableOf, kind_of, IsNear, cond, first_day-next, year_length, year_length-is}
 use Rattle.tz_rule.proofs.Weeks.{week_day_of_year-next}
 use Rattle.tz_rule.proofs.YearKinds.{IsAlike, like_model}
 use Rattle.tz_rule.proofs.YearlyInstants.{year_start}

@@ -1,10 +1,5 @@
 -- The rule whose bytes are all zero: its tables are zeros, which change no order.
-use Rattle.std.proofs.Common.{◌≡◌, ◌&&◌, false, refl, arith, inl, pos, replicate, List, ℤ}
-use Rattle.std.proofs.lemmas.Int.{ints}
-use Rattle.std.proofs.lemmas.List.{get_or-replicate}
-use Rattle.tz_rule.specs.RuleInside.{IsRuleInside, parts_of}
-use Rattle.tz_rule.specs.YearDays.{year_day_of}
-use Rattle.tz_rule.specs.YearTables.{entry, AreBounds, ComesFirst, day_table, start_table, end_table, is_inner, least_entry, greatest_entry}
+use Rattle.tz_rule.proofs.Common.{arith, ◌≡◌, ints, pos, refl, ℤ, inl, entry, false, List, year_day_of, ComesFirst, end_table, start_table, ◌&&◌, day_table, greatest_entry, least_entry, is_inner, AreBounds, IsRuleInside, get_or-replicate, replicate, parts_of}
 use Rattle.tz_rule.specs.ZeroRule.{zero_rule}
 use Rattle.tz_rule.proofs.ApartBounds.{never_first, no_order_changes}
 use Rattle.tz_rule.proofs.RulesAcrossYears.{kept_from}

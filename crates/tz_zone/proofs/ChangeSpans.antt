@@ -1,14 +1,5 @@
 -- Spans of one type have no change inside, and the change where one ends is the next one.
-use Rattle.std.proofs.Common.{◌≡◌, ◌∙◌, sym, subst, arith, inl, [], ℤ, pos, negsuc, ◌+ℤ◌, ◌-ℤ◌, ◌≤ℤ◌, ◌<ℤ◌, Option, Some, None}
-use Rattle.std.specs.Prelude.{MatchOption}
-use Rattle.std.proofs.lemmas.Int.{ints, by_lt_z}
-use Rattle.tz_rule.specs.LocalTimeType.{LocalTimeType}
-use Rattle.tz_rule.specs.Rule.{IsRuleType}
-use Rattle.tz_rule.specs.RuleChanges.{TypeChange, IsTypeChange, IsChangeAfter, IsChangeUpTo, HasNoChangeAfter, HasNoChangeUpTo}
-use Rattle.tz_rule.specs.declared.timezone.transition_rule.TransitionRule.{TransitionRule}
-use Rattle.tz_zone.specs.Table.{Zone}
-use Rattle.tz_zone.specs.Clock.{IsTypeWithout, IsClock}
-use Rattle.tz_zone.specs.Changes.{Change, IsChange, HasNoChange, HasNoFollowing, HasNoPreceding, IsFollowing, IsPreceding}
+use Rattle.tz_zone.proofs.Common.{◌≡◌, arith, ints, sym, inl, ℤ, ◌∙◌, subst, ◌≤ℤ◌, Some, ◌<ℤ◌, pos, ◌-ℤ◌, LocalTimeType, Zone, [], ◌+ℤ◌, Option, by_lt_z, negsuc, None, IsClock, TransitionRule, MatchOption, IsTypeWithout, Change, IsRuleType, HasNoChange, HasNoPreceding, IsChange, IsFollowing, IsPreceding, HasNoFollowing, HasNoChangeAfter, HasNoChangeUpTo, IsChangeAfter, IsChangeUpTo, IsTypeChange, TypeChange}
 use Rattle.tz_zone.proofs.InstantsWithLeapTime.{clock_without}
 
 -- from one instant up to another the clock has no two types

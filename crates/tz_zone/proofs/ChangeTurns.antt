@@ -1,10 +1,7 @@
 -- Changes that are given in turn are counted from the instant on, and neighbours are nearest to one another.
-use Rattle.std.proofs.Common.{◌≡◌, sym, subst, arith, ℕ, zero, suc, ◌<◌, ℤ, pos, ◌+ℤ◌, ◌-ℤ◌, ◌<ℤ◌, List, [], ◌∷◌, Some, None, length}
+use Rattle.tz_zone.proofs.Common.{◌≡◌, arith, ℕ, ints, sym, length, ℤ, subst, ◌<◌, List, Some, ◌<ℤ◌, pos, ◌-ℤ◌, Zone, [], ◌+ℤ◌, by_lt_z, None, ◌∷◌, suc, zero, change_of, Change, HasNoPreceding, IsChange, IsFollowing, IsPreceding, HasNoFollowing}
 use Rattle.std.specs.Iterator.{YieldsThen}
-use Rattle.std.proofs.lemmas.Int.{ints, by_lt_z}
-use Rattle.tz_zone.specs.Changes.{Change, change_of, IsChange, IsFollowing, IsPreceding, HasNoFollowing, HasNoPreceding}
 use Rattle.tz_zone.specs.ChangesInTurn.{Position, position_after, position_before, GivesFollowing, GivesPreceding, IsNthFollowing, IsNthPreceding}
-use Rattle.tz_zone.specs.Table.{Zone}
 use Rattle.tz_zone.specs.declared.clock.segment.Change.{Change as KeptChange}
 use Rattle.tz_zone.specs.declared.timezone.changes.ChangesAfter.{ChangesAfter}
 use Rattle.tz_zone.specs.declared.timezone.changes.ChangesBefore.{ChangesBefore}

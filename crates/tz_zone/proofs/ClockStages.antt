@@ -1,19 +1,6 @@
 -- From a stage of a walk on: the type of the clock until the next transition is reached, and the stages that follow.
-use Rattle.std.proofs.Common.{◌≡◌, ◌≢◌, ℕ, zero, suc, ◌+◌, ◌<◌, eqb, inl, inr, sym, arith, ℤ, pos, ◌+ℤ◌, ◌≤ℤ◌}
-use Rattle.std.proofs.Common.{◌<ℤ◌, [], length, Option, Some, None}
-use Rattle.std.proofs.Math.Dec.{eqb-suc-zero}
-use Rattle.std.specs.Prelude.{slice_get, MatchOption}
-use Rattle.std.specs.Borrow.{Bor}
-use Rattle.std.proofs.lemmas.Int.{ints, by_lt_z}
-use Rattle.std.proofs.lemmas.List.{nil_from_length}
-use Rattle.std.proofs.lemmas.Option.{slice_get_within}
-use Rattle.tz_rule.specs.LocalTimeType.{LocalTimeType}
-use Rattle.tz_zone.specs.Table.{Transition, Zone}
-use Rattle.tz_zone.specs.LeapTime.{IsLeapTimeRefused, IsLeapTime, IsTimeReached, IsLastBefore}
-use Rattle.tz_zone.specs.Clock.{AreReached, IsTypeAt, IsTypeAfterTable, IsClock, HasNoType}
-use Rattle.tz_zone.specs.ClockSegments.{IsReachedAt}
+use Rattle.tz_zone.proofs.Common.{◌≡◌, arith, ℕ, ints, sym, inr, inl, length, ℤ, ◌<◌, ◌≤ℤ◌, Some, ◌<ℤ◌, pos, LocalTimeType, Zone, [], ◌+ℤ◌, ◌+◌, Option, by_lt_z, slice_get, slice_get_within, ◌≢◌, None, IsReachedAt, suc, IsClock, zero, Transition, IsLeapTimeRefused, eqb, AreReached, MatchOption, IsLeapTime, IsTimeReached, IsSoundTable, IsTypeAt, nil_from_length, Bor, HasNoType, IsTypeAfterTable, eqb-suc-zero, IsLastBefore}
 use Rattle.tz_zone.specs.ClockSpans.{IsStage}
-use Rattle.tz_zone.specs.ValidZone.{IsSoundTable}
 use Rattle.tz_zone.specs.declared.clock.window_types.Stage.{Stage}
 use Rattle.tz_zone.proofs.LeapTimes.{leap_time_mono, one_leap_time, past_later}
 use Rattle.tz_zone.proofs.RisingTimes.{rising, ahead_from, reached_through}

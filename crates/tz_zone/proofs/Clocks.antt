@@ -1,17 +1,5 @@
 -- The clock of a zone with transitions, from the leap time of the instant.
-use Rattle.std.proofs.Common.{◌≡◌, ◌≢◌, ℕ, ◌-◌, ◌⊎◌, ◌∙◌, sym, ap, arith, inl, inr, ℤ, ◌≤ℤ◌, ◌<ℤ◌, List, [], Option, Some, None}
-use Rattle.std.proofs.lemmas.Bool.{cases_lt}
-use Rattle.std.proofs.lemmas.Int.{ints}
-use Rattle.std.proofs.lemmas.Option.{same_Some, none-some}
-use Rattle.tz_base.specs.declared.error.TzError.{TzError}
-use Rattle.tz_base.specs.declared.error.TzError.TheVariants.{OutOfRange}
-use Rattle.tz_rule.specs.LocalTimeType.{LocalTimeType}
-use Rattle.tz_rule.specs.declared.timezone.transition_rule.TransitionRule.{TransitionRule}
-use Rattle.tz_rule.proofs.RuleTypes.{rule_type_unique}
-use Rattle.tz_zone.specs.Table.{Transition, Zone}
-use Rattle.tz_zone.specs.LeapTime.{IsLeapTimeRefused, IsLeapTime}
-use Rattle.tz_zone.specs.Clock.{AreReached, AreAhead, IsTypeAt, IsTypeOfLast, IsLast, IsTransitionType, IsTypeAfter, IsTypeWithout, IsTypeWith, IsFaultAfter, IsClock, IsOver, IsLookupFault}
-use Rattle.tz_zone.specs.ValidZone.{AreLeapSeconds}
+use Rattle.tz_zone.proofs.Common.{◌≡◌, arith, ℕ, ints, sym, inr, inl, ℤ, ◌∙◌, ap, List, ◌≤ℤ◌, Some, ◌<ℤ◌, ◌-◌, LocalTimeType, Zone, [], Option, ◌≢◌, None, same_Some, ◌⊎◌, AreLeapSeconds, IsClock, TransitionRule, Transition, cases_lt, IsLeapTimeRefused, AreReached, IsLeapTime, IsTypeOfLast, IsTypeAt, IsTypeWithout, IsTypeAfter, TzError, none-some, AreAhead, IsLast, IsFaultAfter, IsLookupFault, IsTransitionType, OutOfRange, rule_type_unique, IsOver, IsTypeWith}
 use Rattle.tz_zone.proofs.LeapTimes.{one_leap_time}
 
 pub last_unique : (transitions : List Transition) (last last' : Transition) → IsLast transitions last

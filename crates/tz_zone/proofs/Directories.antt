@@ -1,15 +1,9 @@
 -- The directories from a position of the list on, and a text without a first byte.
-use Rattle.std.proofs.Common.{◌≡◌, ◌≢◌, ℕ, ◌+◌, ◌<◌, false, List, [], ◌∷◌, length, get_or, drop, sym, ap, ◌∙◌, add-one, Option, Some, None, Result, IfOk, Ok, Err, refl, subst, inl, inr}
-use Rattle.std.specs.Prelude.{Vec}
-use Rattle.std.specs.declared.alloc.Global.{Global}
+use Rattle.tz_zone.proofs.Common.{◌≡◌, ℕ, refl, sym, inr, inl, length, ◌∙◌, subst, ◌<◌, ap, List, Some, [], ◌+◌, Option, ◌≢◌, None, false, ◌∷◌, get_or, Err, Ok, Result, Bor, drop, Begins, FindsIn, Read, slash, Failed, Finds, Global, Vec, texts_of, add-one, path_in}
+use Rattle.std.proofs.Common.{IfOk}
 use Rattle.anyhow.specs.declared.error.Error.{Error as Fault}
-use Rattle.tz_base.specs.declared.error.ReadFault.TheVariants.{Failed}
 use Rattle.std.proofs.Math.Seq.{drop-cons}
-use Rattle.std.specs.Borrow.{Bor}
 use Rattle.std.specs.Option.{MatchOption}
-use Rattle.tz_zone.specs.Bytes.{slash}
-use Rattle.tz_zone.specs.Settings.{Read, path_in, FindsIn, Finds, texts_of}
-use Rattle.tz_zone.specs.TzText.{Begins}
 
 pub bare_text : (b : ℕ) (text : List ℕ) (r : Option (Bor (List ℕ)))
     → MatchOption r ((rest : List ℕ) → text ≢ b ∷ rest) (λ x. text ≡ b ∷ x.now)

@@ -1,7 +1,5 @@
 -- What a list is that is empty, or is not, and the test of it.
-use Rattle.std.proofs.Common.{◌≡◌, ◌≢◌, ◌<◌, true, false, List, [], ◌∷◌, length, eqb, refl, sym, ap, ◌∙◌, arith}
-use Rattle.std.proofs.lemmas.Bool.{false≢true, eqb-true}
-use Rattle.std.proofs.lemmas.List.{nil_from_length}
+use Rattle.tz_zone.proofs.Common.{◌≡◌, arith, refl, sym, length, ◌∙◌, ◌<◌, ap, List, [], ◌≢◌, false, ◌∷◌, true, eqb, false≢true, nil_from_length, eqb-true}
 
 pub none_if_empty : {X : Type 0} (xs : List X) → true ≡ eqb (length xs) 0 → xs ≡ []
 none_if_empty xs e = nil_from_length xs (eqb-true (length xs) 0 (sym e))

@@ -1,12 +1,6 @@
 -- Before an expiry a table of leap seconds has the leap times that it has with it.
-use Rattle.std.proofs.Common.{◌≡◌, ℕ, zero, suc, ◌+◌, ◌<◌, ◌≤◌, ◌⊎◌, inl, inr, sym, ap, ◌∙◌, subst, refl, arith, ℤ, ◌+ℤ◌, List, [], ◌∷◌, ◌++◌, length, slice_get, ◌↔◌}
-use Rattle.std.proofs.lemmas.Int.{ints}
-use Rattle.std.proofs.lemmas.Bool.{cases_lt}
-use Rattle.std.proofs.lemmas.List.{length-append, get_or_append_left}
-use Rattle.std.proofs.lemmas.Option.{slice_get_within, same_Some}
-use Rattle.tz_zone.specs.Table.{LeapSecond}
-use Rattle.tz_zone.specs.LeapTime.{IsInstant, correction_at, correction_at_start, correction_before, IsReached, IsCorrection, IsPastInstants, IsLeapTimeRefused, IsLeapTime}
-use Rattle.tz_zone.specs.ValidZone.{AreLeapSeconds, ExpiresAt}
+use Rattle.tz_zone.proofs.Common.{◌≡◌, arith, ℕ, ints, refl, sym, inr, inl, length, ℤ, ◌∙◌, subst, ◌<◌, ap, List, ◌≤◌, [], ◌+ℤ◌, ◌+◌, LeapSecond, slice_get_within, same_Some, ◌∷◌, ◌⊎◌, suc, AreLeapSeconds, zero, IsInstant, cases_lt, IsLeapTimeRefused, IsPastInstants, IsReached, IsLeapTime, correction_before, ◌++◌, IsCorrection, ExpiresAt, correction_at, correction_at_start, ◌↔◌, get_or_append_left, length-append}
+use Rattle.std.proofs.Common.{slice_get}
 use Rattle.tz_zone.proofs.LeapLists.{no_leap, time_at, correction_before-suc, IsReachedCount, IsReached-at, IsReached-below, IsCorrection-from_count, correction_from_count, count_exists}
 
 index_in_front : (leaps : List LeapSecond) (last : LeapSecond) (i : ℕ) → i < length leaps

@@ -1,14 +1,5 @@
 -- Which instants have a leap time, by others that have one, and which leap times are reached there.
-use Rattle.std.proofs.Common.{◌≡◌, ◌≢◌, ℕ, zero, suc, ◌<◌, inl, inr, eqb, refl, sym, subst, arith, ℤ, pos, negsuc, ◌≤ℤ◌, ◌<ℤ◌, List, [], length, MatchBool}
-use Rattle.std.proofs.Math.Dec.{eqb-suc-zero}
-use Rattle.std.proofs.lemmas.Int.{ints, by_lt_z}
-use Rattle.std.proofs.lemmas.List.{nil_from_length}
-use Rattle.std.proofs.lemmas.Option.{slice_get_within, none-some}
-use Rattle.tz_rule.specs.LocalTimeType.{LocalTimeType}
-use Rattle.tz_zone.specs.Table.{Transition, LeapSecond, Zone}
-use Rattle.tz_zone.specs.LeapTime.{IsInstant, IsReached, IsBeforeStart, IsLeapTimeRefused, IsLeapTime, IsTimeReached, IsWideEffect}
-use Rattle.tz_zone.specs.Clock.{IsTypeWithout, IsClock, HasNoType}
-use Rattle.tz_zone.specs.ValidZone.{AreLeapSeconds}
+use Rattle.tz_zone.proofs.Common.{◌≡◌, arith, ℕ, ints, refl, sym, inr, inl, length, ℤ, subst, ◌<◌, List, ◌≤ℤ◌, ◌<ℤ◌, pos, LocalTimeType, Zone, [], by_lt_z, negsuc, LeapSecond, slice_get_within, ◌≢◌, suc, AreLeapSeconds, IsClock, IsWideEffect, zero, IsInstant, Transition, IsLeapTimeRefused, eqb, IsReached, IsLeapTime, IsTimeReached, IsTypeWithout, IsBeforeStart, nil_from_length, none-some, HasNoType, MatchBool, eqb-suc-zero}
 use Rattle.tz_zone.proofs.LeapLists.{count_exists}
 use Rattle.tz_zone.proofs.LeapTimes.{IsLeapTime-from_count, leap_time_from_count, leap_time_fits, leap_time_mono, one_leap_time, past_later, begun_later, not_refused_within, instant_bounds}
 use Rattle.tz_zone.proofs.Clocks.{some_from_last}

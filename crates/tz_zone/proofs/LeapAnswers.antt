@@ -1,12 +1,7 @@
 -- What the clauses of the counts give for a leap time.
-use Rattle.std.proofs.Common.{◌≢◌, inl, inr, arith, ℤ, negsuc, ◌≤ℤ◌, List}
+use Rattle.tz_zone.proofs.Common.{arith, ints, inr, inl, ℤ, List, ◌≤ℤ◌, negsuc, LeapSecond, ◌≢◌, AreLeapSeconds, IsWideEffect, IsInstant, IsLeapTimeRefused, IsEffect, IsEffectRefused, MatchBool-by_test}
 use Rattle.std.specs.Prelude.{MatchBool}
-use Rattle.std.proofs.lemmas.Int.{ints}
 use lib.Signed.{le_z}
-use Rattle.tz_rule.proofs.WeakerClauses.{MatchBool-by_test}
-use Rattle.tz_zone.specs.Table.{LeapSecond}
-use Rattle.tz_zone.specs.LeapTime.{IsInstant, IsLeapTimeRefused, IsWideEffect, IsEffect, IsEffectRefused}
-use Rattle.tz_zone.specs.ValidZone.{AreLeapSeconds}
 use Rattle.tz_zone.proofs.LeapTimes.{IsInstant-from_bounds, instant_bounds, past_later}
 
 -- what a comparison decides

@@ -1,11 +1,5 @@
 -- The last instant that has a leap time, by each leap second in turn.
-use Rattle.std.proofs.Common.{◌≡◌, ℕ, suc, ◌+◌, ◌<◌, ◌⊎◌, inl, inr, sym, ap, ◌∙◌, arith, ℤ, pos, negsuc, ◌+ℤ◌, ◌-ℤ◌, ◌≤ℤ◌, ◌<ℤ◌, List, length, Some}
-use Rattle.std.specs.Prelude.{slice_get}
-use Rattle.std.proofs.lemmas.Int.{ints}
-use Rattle.std.proofs.lemmas.Option.{slice_get_within, same_Some}
-use Rattle.tz_zone.specs.Table.{LeapSecond}
-use Rattle.tz_zone.specs.LeapTime.{IsInstant, correction_before, IsReached}
-use Rattle.tz_zone.specs.ValidZone.{AreLeapSeconds}
+use Rattle.tz_zone.proofs.Common.{◌≡◌, arith, ℕ, ints, sym, inr, inl, length, ℤ, ◌∙◌, ◌<◌, ap, List, ◌≤ℤ◌, Some, ◌<ℤ◌, pos, ◌-ℤ◌, ◌+ℤ◌, ◌+◌, negsuc, LeapSecond, slice_get, slice_get_within, same_Some, ◌⊎◌, suc, AreLeapSeconds, IsInstant, IsReached, correction_before}
 use Rattle.tz_zone.proofs.LeapSteps.{time_bound}
 use Rattle.tz_zone.proofs.LeapLists.{time_at, time_at-is, correction_before-suc, AreSteps-from_leaps}
 use Rattle.tz_zone.proofs.LeapTimes.{IsInstant-from_bounds, instant_bounds}

@@ -1,14 +1,6 @@
 -- A list of leap seconds, seen as two functions of its indexes: its leap times and the effects of leap times.
-use Rattle.std.proofs.Common.{◌≡◌, ◌≢◌, ℕ, zero, suc, ◌+◌, ◌-◌, ◌<◌, ◌≤◌, ◌⊎◌, inl, inr, refl, sym, ap, ◌∙◌, arith, Bool, true, false, cond, eqb, ℤ, pos, negsuc, ◌+ℤ◌, ◌-ℤ◌, ◌≤ℤ◌, ◌<ℤ◌, neg_ℤ, List, [], ◌∷◌, length, get_or, Some}
-use Rattle.std.specs.Prelude.{slice_get, unsigned_abs, FitsSigned}
+use Rattle.tz_zone.proofs.Common.{◌≡◌, arith, ℕ, ints, refl, sym, inr, inl, length, ℤ, ◌∙◌, ◌<◌, ap, List, ◌≤ℤ◌, Some, ◌<ℤ◌, pos, ◌-ℤ◌, ◌-◌, ◌≤◌, [], ◌+ℤ◌, ◌+◌, by_lt_z, negsuc, LeapSecond, slice_get, slice_get_within, ◌≢◌, false, ◌∷◌, ◌⊎◌, suc, AreLeapSeconds, true, Bool, zero, cases_lt, eqb, IsReached, get_or, correction_before, FitsSigned, cond, slice_get-get_or, IsStart, IsCorrection, get_or_from_slice_get, Follows, IsOneSecond, correction_at, correction_at_start, neg_ℤ, nat_tests, unsigned_abs}
 use Rattle.std.specs.Int.{w32}
-use Rattle.std.proofs.lemmas.Int.{ints, by_lt_z}
-use Rattle.std.proofs.lemmas.Bool.{cases_lt}
-use Rattle.std.proofs.lemmas.Bool.Decides.{nat_tests}
-use Rattle.std.proofs.lemmas.Option.{slice_get_within, slice_get-get_or, get_or_from_slice_get}
-use Rattle.tz_zone.specs.Table.{LeapSecond}
-use Rattle.tz_zone.specs.LeapTime.{IsOneSecond, IsStart, correction_at, correction_at_start, correction_before, IsReached, IsCorrection}
-use Rattle.tz_zone.specs.ValidZone.{Follows, AreLeapSeconds}
 use Rattle.tz_zone.proofs.LeapSteps.{AreSteps, IsCount, reached_down}
 
 abbrev pub no_leap : LeapSecond

@@ -1,9 +1,5 @@
 -- At which instants a leap time is reached: from its effect on.
-use Rattle.std.proofs.Common.{◌≡◌, ◌⊎◌, inl, inr, arith, ℤ, pos, negsuc, ◌+ℤ◌, ◌-ℤ◌, ◌≤ℤ◌, ◌<ℤ◌, List, []}
-use Rattle.std.proofs.lemmas.Int.{ints, by_lt_z}
-use Rattle.tz_zone.specs.Table.{LeapSecond}
-use Rattle.tz_zone.specs.LeapTime.{IsBeforeStart, IsPastInstants, IsLeapTimeRefused, IsTimeReached, IsWideEffect, IsLastBefore}
-use Rattle.tz_zone.specs.ValidZone.{AreLeapSeconds}
+use Rattle.tz_zone.proofs.Common.{◌≡◌, arith, ints, inr, inl, ℤ, List, ◌≤ℤ◌, ◌<ℤ◌, pos, ◌-ℤ◌, [], ◌+ℤ◌, by_lt_z, negsuc, LeapSecond, ◌⊎◌, AreLeapSeconds, IsWideEffect, IsLeapTimeRefused, IsPastInstants, IsTimeReached, IsBeforeStart, IsLastBefore}
 use Rattle.tz_zone.proofs.LeapTimes.{one_leap_time, past_later, begun_later, not_past_within}
 use Rattle.tz_zone.proofs.InstantsWithLeapTime.{plain_leap, plain_effect, reached_from}
 

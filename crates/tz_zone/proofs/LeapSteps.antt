@@ -1,8 +1,6 @@
 -- Leap seconds as two functions of their indexes: when each is reached, which correction holds, and where a leap time
 -- takes effect.
-use Rattle.std.proofs.Common.{◌≡◌, ℕ, zero, suc, ◌+◌, ◌-◌, ◌*◌, ◌<◌, ◌≤◌, ◌⊎◌, inl, inr, ap, arith, ℤ, pos, negsuc, neg_ℤ, ◌+ℤ◌, ◌-ℤ◌, ◌≤ℤ◌, ◌<ℤ◌}
-use Rattle.std.proofs.lemmas.Int.{ints}
-use Rattle.std.proofs.lemmas.Bool.{cases_lt}
+use Rattle.tz_zone.proofs.Common.{◌≡◌, arith, ℕ, ints, inr, inl, ℤ, ◌<◌, ap, ◌≤ℤ◌, ◌<ℤ◌, pos, ◌-ℤ◌, ◌-◌, ◌≤◌, ◌+ℤ◌, ◌+◌, negsuc, ◌⊎◌, suc, zero, cases_lt, neg_ℤ, ◌*◌}
 
 -- index i has time t i, and c i is the correction before it
 pub record AreSteps (n : ℕ) (t c : ℕ → ℤ) : Type 0 where

@@ -1,11 +1,6 @@
 -- Leap times and effects of a list of leap seconds: values, refusals, order, and that each has one value.
-use Rattle.std.proofs.Common.{◌≡◌, ℕ, zero, suc, ◌+◌, ◌<◌, ◌⊎◌, inl, inr, refl, sym, ap, ◌∙◌, arith, ℤ, pos, negsuc, ◌+ℤ◌, ◌-ℤ◌, ◌≤ℤ◌, ◌<ℤ◌, List, length, slice_get, ◌↔◌}
-use Rattle.std.proofs.lemmas.Int.{ints, by_lt_z}
-use Rattle.std.proofs.lemmas.Bool.{cases_lt}
-use Rattle.std.proofs.lemmas.Option.{slice_get_within, same_Some}
-use Rattle.tz_zone.specs.Table.{LeapSecond}
-use Rattle.tz_zone.specs.LeapTime.{IsInstant, IsStart, correction_before, IsReached, IsBeforeStart, IsPastInstants, IsLeapTimeRefused, IsCorrection, IsLeapTime, IsTimeReached, IsEffect}
-use Rattle.tz_zone.specs.ValidZone.{AreLeapSeconds, HasBegunAt}
+use Rattle.tz_zone.proofs.Common.{◌≡◌, arith, ℕ, ints, refl, sym, inr, inl, length, ℤ, ◌∙◌, ◌<◌, ap, List, ◌≤ℤ◌, ◌<ℤ◌, pos, ◌-ℤ◌, ◌+ℤ◌, ◌+◌, by_lt_z, negsuc, LeapSecond, slice_get_within, same_Some, ◌⊎◌, suc, AreLeapSeconds, zero, IsInstant, cases_lt, IsLeapTimeRefused, IsPastInstants, IsReached, IsLeapTime, IsTimeReached, correction_before, IsBeforeStart, IsStart, HasBegunAt, IsCorrection, IsEffect, ◌↔◌}
+use Rattle.std.proofs.Common.{slice_get}
 use Rattle.tz_zone.proofs.LeapSteps.{AreSteps, correction_bound, time_bound, leap_growth, leap_from_start, IsTimeCount, IsEffectByCount, effect_reached, effect_least, reached_down}
 use Rattle.tz_zone.proofs.LeapLists.{time_at, time_at-is, correction_before-suc, correction_without_start, correction_at_truncated, IsReachedCount, AreSteps-from_leaps, IsReached-at, IsReached-below, IsCorrection-from_count, correction_from_count, count_exists}
 

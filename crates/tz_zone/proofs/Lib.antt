@@ -1,3 +1,4 @@
+mod Common
 pub mod LeapSteps
 pub mod ReadBytes
 pub mod EmptyLists

@@ -1,10 +1,5 @@
 -- Of two first changes after an instant neither is before the other, and at one instant there is one change.
-use Rattle.std.proofs.Common.{◌≡◌, ◌∙◌, sym, ap, subst, arith, ℤ, pos, ◌-ℤ◌}
-use Rattle.std.proofs.lemmas.Int.{ints, by_lt_z}
-use Rattle.tz_rule.specs.LocalTimeType.{LocalTimeType}
-use Rattle.tz_zone.specs.Changes.{Change, IsChange, IsFollowing, IsPreceding}
-use Rattle.tz_zone.specs.Clock.{IsClock}
-use Rattle.tz_zone.specs.Table.{Zone}
+use Rattle.tz_zone.proofs.Common.{◌≡◌, arith, ints, sym, ℤ, ◌∙◌, subst, ap, pos, ◌-ℤ◌, LocalTimeType, Zone, by_lt_z, IsClock, Change, IsChange, IsFollowing, IsPreceding}
 use Rattle.tz_zone.proofs.Clocks.{one_type}
 
 same_change : (c d : Change) → c.unix_time ≡ d.unix_time → c.before ≡ d.before → c.after ≡ d.after → c ≡ d

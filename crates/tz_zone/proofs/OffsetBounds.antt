@@ -1,19 +1,8 @@
 -- The less and the greater of two numbers, and that an offset of a zone can be found among those that it has.
-use Rattle.std.proofs.Common.{◌≡◌, ◌≢◌, ℕ, zero, suc, ◌⊎◌, ◌∙◌, inl, inr, refl, sym, ap, subst, arith, ℤ, true, false, cond, List, [], ◌∷◌, Option, Some, None}
-use Rattle.std.specs.Prelude.{int_lt, slice_get}
-use Rattle.std.specs.Int.{int_min, int_max}
+use Rattle.tz_zone.proofs.Common.{◌≡◌, arith, ℕ, ints, refl, sym, inr, inl, ℤ, ◌∙◌, subst, ap, List, Some, LocalTimeType, Zone, [], Option, slice_get, ◌≢◌, None, false, same_Some, ◌∷◌, ◌⊎◌, suc, true, TransitionRule, zero, false≢true, cond, none-some, int_max, Fixed, Alternate, IsOffsetOfTypes, int_min, IsOffsetOfRule, zone_of_type, AreEndOffsets, Decides-int_eq, IsOffset, cases_Bool, int_lt}
 use Rattle.std.specs.Ordering.{int_eq}
 use Rattle.std.proofs.Math.Logic.{∥∥₁_elim, ∥∥₁_map}
 use Rattle.std.proofs.Props.{props}
-use Rattle.std.proofs.lemmas.Bool.{cases_Bool, false≢true}
-use Rattle.std.proofs.lemmas.Bool.Decides.{Decides-int_eq}
-use Rattle.std.proofs.lemmas.Int.{ints}
-use Rattle.std.proofs.lemmas.Option.{same_Some, none-some}
-use Rattle.tz_rule.specs.LocalTimeType.{LocalTimeType}
-use Rattle.tz_rule.specs.declared.timezone.transition_rule.TransitionRule.{TransitionRule}
-use Rattle.tz_rule.specs.declared.timezone.transition_rule.TransitionRule.TheVariants.{Fixed, Alternate}
-use Rattle.tz_zone.specs.Table.{Zone, zone_of_type}
-use Rattle.tz_zone.specs.Offsets.{IsOffsetOfTypes, IsOffsetOfRule, IsOffset, AreEndOffsets}
 
 -- the less of two numbers is one of them, and so is the greater
 pub int_min_either : (x y : ℤ) → (int_min x y ≡ x) ⊎ (int_min x y ≡ y)

@@ -1,18 +1,5 @@
 -- Positions between two others, and the clock where transitions are to one type.
-use Rattle.std.proofs.Common.{◌≡◌, ◌≢◌, ◌∙◌, ℕ, zero, suc, ◌+◌, ◌-◌, ◌<◌, ◌≤◌, inl, inr, refl, sym, ap, subst, arith, ℤ, pos, negsuc, ◌+ℤ◌, ◌-ℤ◌, ◌≤ℤ◌, ◌<ℤ◌, List, [], ◌∷◌, length, get_or, Option, Some, None}
-use Rattle.std.specs.Prelude.{slice_get, MatchOption}
-use Rattle.std.specs.Borrow.{Bor}
-use Rattle.std.proofs.lemmas.Int.{ints, by_lt_z}
-use Rattle.std.proofs.lemmas.Bool.{cases_lt}
-use Rattle.std.proofs.lemmas.Option.{slice_get_within, slice_get-get_or, same_Some}
-use Rattle.tz_rule.specs.LocalTimeType.{LocalTimeType}
-use Rattle.tz_zone.specs.Table.{Transition, Zone}
-use Rattle.tz_zone.specs.LeapTime.{IsLeapTimeRefused, IsLeapTime, IsTimeReached, IsWideEffect}
-use Rattle.tz_zone.specs.Clock.{AreReached, AreAhead, IsPositionAt, IsTypeAt, IsTypeOfLast, IsTypeAfter, IsClock, HasNoType}
-use Rattle.tz_zone.specs.ClockSegments.{from_start, IsReachedAt}
-use Rattle.tz_zone.specs.ValidZone.{IsSoundTable}
-use Rattle.tz_zone.specs.Changes.{HasNoChange, HasNoPreceding}
-use Rattle.tz_zone.specs.Runs.{LiesAt, IsRunStart, HasNoneAfterSeam}
+use Rattle.tz_zone.proofs.Common.{◌≡◌, arith, ℕ, ints, refl, sym, inr, inl, length, ℤ, ◌∙◌, subst, ◌<◌, ap, List, ◌≤ℤ◌, Some, ◌<ℤ◌, pos, ◌-ℤ◌, ◌-◌, ◌≤◌, LocalTimeType, Zone, [], ◌+ℤ◌, ◌+◌, Option, by_lt_z, negsuc, slice_get, slice_get_within, ◌≢◌, None, same_Some, ◌∷◌, IsReachedAt, suc, IsClock, IsWideEffect, zero, Transition, cases_lt, IsLeapTimeRefused, AreReached, MatchOption, get_or, IsLeapTime, IsTimeReached, IsTypeOfLast, IsSoundTable, IsTypeAt, IsTypeAfter, AreAhead, Bor, HasNoChange, HasNoPreceding, slice_get-get_or, HasNoType, IsRunStart, LiesAt, HasNoneAfterSeam, IsPositionAt, from_start}
 use Rattle.tz_zone.proofs.LeapTimes.{leap_time_mono, one_leap_time}
 use Rattle.tz_zone.proofs.RisingTimes.{rising, ahead_from, reached_through, transitions_rise}
 use Rattle.tz_zone.proofs.Clocks.{one_type}

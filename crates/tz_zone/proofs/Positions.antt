@@ -1,28 +1,10 @@
 -- Positions: which instants lie at one, and the type of the clock there.
-use Rattle.std.proofs.Common.{◌≡◌, ◌≢◌, ℕ, zero, suc, ◌+◌, ◌-◌, ◌<◌, ◌≤◌, ◌∙◌, inl, inr, eqb, refl, sym, ap, subst}
-use Rattle.std.proofs.Common.{arith, ℤ, ◌≤ℤ◌, ◌<ℤ◌, List, [], ◌∷◌, length, get_or, Option, Some, None}
-use Rattle.std.proofs.Math.Dec.{eqb-suc-zero}
-use Rattle.std.proofs.lemmas.List.{nil_from_length}
-use Rattle.std.specs.Prelude.{slice_get, MatchOption}
-use Rattle.std.proofs.lemmas.Int.{ints, by_lt_z}
-use Rattle.std.proofs.lemmas.Option.{slice_get_within, slice_get-get_or, same_Some, none-some}
-use Rattle.tz_base.specs.declared.error.TzError.{TzError}
-use Rattle.tz_base.specs.declared.error.TzError.TheVariants.{OutOfRange, NoAvailableLocalTimeType}
-use Rattle.tz_rule.specs.LocalTimeType.{LocalTimeType}
-use Rattle.tz_rule.specs.declared.timezone.transition_rule.TransitionRule.{TransitionRule}
-use Rattle.tz_zone.specs.Table.{Transition, Zone}
-use Rattle.tz_zone.specs.LeapTime.{IsLeapTime, IsTimeReached, IsWideEffect}
-use Rattle.tz_zone.specs.Clock.{IsPositionAt, IsTypeAt, IsTypeOfLast, IsLast, IsTypeAfter, IsTypeWithout}
-use Rattle.tz_zone.specs.Clock.{IsTypeAfterTable, IsFaultAfter, IsClock, IsLookupFault}
-use Rattle.tz_zone.specs.ValidZone.{IsSoundTable}
-use Rattle.tz_zone.specs.ClockSegments.{from_start, IsReachedAt, IsBefore}
+use Rattle.tz_zone.proofs.Common.{◌≡◌, arith, ℕ, ints, refl, sym, inr, inl, length, ℤ, ◌∙◌, subst, ◌<◌, ap, List, ◌≤ℤ◌, Some, ◌<ℤ◌, ◌-◌, ◌≤◌, LocalTimeType, Zone, [], ◌+◌, Option, by_lt_z, slice_get, slice_get_within, ◌≢◌, None, same_Some, ◌∷◌, IsReachedAt, suc, IsClock, IsWideEffect, TransitionRule, zero, Transition, eqb, MatchOption, get_or, IsLeapTime, IsTimeReached, IsTypeOfLast, IsSoundTable, IsTypeAt, IsTypeWithout, IsTypeAfter, TzError, nil_from_length, none-some, slice_get-get_or, IsBefore, IsLast, IsTypeAfterTable, eqb-suc-zero, IsFaultAfter, IsLookupFault, IsPositionAt, OutOfRange, from_start, NoAvailableLocalTimeType}
 use Rattle.tz_zone.proofs.EmptyLists.{length_of_some}
 use Rattle.tz_zone.proofs.LeapTimes.{leap_time_mono, one_leap_time}
 use Rattle.tz_zone.proofs.RisingTimes.{rising, ahead_from, reached_through}
-use Rattle.tz_zone.proofs.Clocks.{transition_type_of_last, clock_before_last, clock_from_last, type_after_from_clock}
-use Rattle.tz_zone.proofs.Clocks.{fault_from_last, fault_without}
-use Rattle.tz_zone.proofs.InstantsWithLeapTime.{by_count, leap_unless_refused, defined_between, effect_ahead}
-use Rattle.tz_zone.proofs.InstantsWithLeapTime.{reached_from}
+use Rattle.tz_zone.proofs.Clocks.{transition_type_of_last, clock_before_last, clock_from_last, type_after_from_clock, fault_from_last, fault_without}
+use Rattle.tz_zone.proofs.InstantsWithLeapTime.{by_count, leap_unless_refused, defined_between, effect_ahead, reached_from}
 
 -- where the leap time of an instant lies, the instant lies
 pub reached_at : (z : Zone) (u l : ℤ) (k : ℕ) → IsLeapTime z.leap_seconds u l → IsPositionAt z.transitions l k

@@ -1,8 +1,6 @@
 -- Powers of two: the order of their exponents, and the half of one.
-use Rattle.std.proofs.Common.{◌≡◌, ◌≢◌, ◌∙◌, ap, ℕ, zero, suc, ◌+◌, ◌/◌, ◌^◌, ◌<◌, ◌≤◌, inl, inr, refl, arith}
+use Rattle.tz_zone.proofs.Common.{◌≡◌, arith, ℕ, refl, inr, inl, ◌∙◌, ◌<◌, ap, ◌≤◌, ◌+◌, ◌≢◌, suc, zero, cases_lt, ◌^◌, pow_mono, ◌/◌}
 use Rattle.std.proofs.Math.Nat.{pow-suc}
-use Rattle.std.proofs.Math.Pow.{pow_mono}
-use Rattle.std.proofs.lemmas.Bool.{cases_lt}
 
 -- a power of two that is below another one has the smaller exponent
 pub exponent_less : (m b n : ℕ) → 2 ^ m < n → n < 2 ^ b → m < b

@@ -1,7 +1,5 @@
 -- The exit of a `?`, where one clause speaks of both outcomes.
-use Rattle.std.proofs.Common.{◌≡◌, Result}
-use Rattle.std.proofs.lemmas.Result.{err_from_is_err_and}
-use Rattle.std.specs.Result.{IsErrAnd, MatchResult}
+use Rattle.tz_zone.proofs.Common.{◌≡◌, Result, MatchResult, err_from_is_err_and, IsErrAnd}
 
 pub exit : {T E : Type 0} (ok : T → Type 0) (err : E → Type 0) (f : E) (r : Result T E) → IsErrAnd r (λ e. e ≡ f)
     → err f → MatchResult r ok err

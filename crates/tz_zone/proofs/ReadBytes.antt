@@ -1,7 +1,5 @@
 -- The bytes so far are followed by those of the next piece.
-use Rattle.std.proofs.Common.{◌≡◌, ◌++◌, ℕ, List, Option, Some, None, sym}
-use Rattle.std.specs.Io.KnownBytes.{Consumes}
-use Rattle.std.proofs.lemmas.List.{append_assoc}
+use Rattle.tz_zone.proofs.Common.{◌≡◌, ℕ, sym, List, Some, Option, None, ◌++◌, Consumes, append_assoc}
 
 pub consumes_more : (old mid new : Option (List ℕ)) (xs ys zs : List ℕ) → Consumes old mid xs → Consumes mid new ys
     → zs ≡ xs ++ ys → Consumes old new zs

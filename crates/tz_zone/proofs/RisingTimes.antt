@@ -1,13 +1,5 @@
 -- Lists of items whose times rise: what is up to a time is the front of the list.
-use Rattle.std.proofs.Common.{◌≡◌, ℕ, zero, suc, ◌+◌, ◌-◌, ◌<◌, ◌≤◌, arith, ap, sym, ◌∙◌, ℤ, ◌≤ℤ◌, ◌<ℤ◌, List, length, get_or, Some, inl, inr}
-use Rattle.std.specs.Prelude.{slice_get}
-use Rattle.std.proofs.lemmas.Int.{ints, by_lt_z}
-use Rattle.std.proofs.lemmas.Bool.{cases_lt}
-use Rattle.std.proofs.lemmas.Option.{slice_get_within, slice_get-get_or, same_Some}
-use Rattle.tz_zone.specs.Table.{Transition, LeapSecond, Zone}
-use Rattle.tz_zone.specs.Clock.{AreReached, AreAhead}
-use Rattle.tz_zone.specs.ValidZone.{AreLeapSeconds, IsRising, IsSoundTable}
-use Rattle.tz_zone.specs.ClockSegments.{IsBefore}
+use Rattle.tz_zone.proofs.Common.{◌≡◌, arith, ℕ, ints, sym, inr, inl, length, ℤ, ◌∙◌, ◌<◌, ap, List, ◌≤ℤ◌, Some, ◌<ℤ◌, ◌-◌, ◌≤◌, Zone, ◌+◌, by_lt_z, LeapSecond, slice_get, slice_get_within, same_Some, suc, AreLeapSeconds, zero, Transition, cases_lt, AreReached, get_or, IsSoundTable, AreAhead, slice_get-get_or, IsBefore, IsRising}
 use Rattle.tz_zone.proofs.LeapSteps.{times_rise}
 use Rattle.tz_zone.proofs.LeapLists.{time_at, time_at-is, AreSteps-from_leaps}
 

@@ -1,22 +1,7 @@
 -- The changes of a rule are those of a clock whose transitions are all reached.
-use Rattle.std.proofs.Common.{◌≡◌, ◌≢◌, ◌∙◌, ◌-◌, ◌<◌, inl, inr, refl, sym, ap, subst, arith, rules, ℤ, pos, ◌+ℤ◌}
-use Rattle.std.proofs.Common.{◌-ℤ◌, ◌≤ℤ◌, ◌<ℤ◌, List, [], length, Option, Some, None}
-use Rattle.std.proofs.lemmas.Int.{ints, by_lt_z}
-use Rattle.std.proofs.lemmas.Option.{slice_get_within, same_Some}
+use Rattle.tz_zone.proofs.Common.{◌≡◌, arith, rules, ints, refl, sym, inr, inl, length, ℤ, ◌∙◌, subst, ◌<◌, ap, List, ◌≤ℤ◌, Some, ◌<ℤ◌, pos, ◌-ℤ◌, ◌-◌, LocalTimeType, Zone, [], ◌+ℤ◌, Option, by_lt_z, slice_get_within, ◌≢◌, None, same_Some, IsReachedAt, AreLeapSeconds, IsClock, TransitionRule, Transition, IsLeapTimeRefused, IsPastInstants, IsLeapTime, IsSoundTable, IsTypeWithout, Change, IsBeforeStart, IsRuleType, IsTypeAfter, HasNoChange, HasNoPreceding, IsChange, IsFollowing, IsPreceding, Fixed, HasNoFollowing, zone_with, Alternate, IsRunStart, without_transitions, IsSeam}
 use Rattle.tz_base.proofs.DaysOfYears.{first_day_bounds}
-use Rattle.tz_rule.specs.LocalTimeType.{LocalTimeType}
-use Rattle.tz_rule.specs.Rule.{IsRuleType}
-use Rattle.tz_rule.specs.declared.timezone.transition_rule.TransitionRule.{TransitionRule}
-use Rattle.tz_rule.specs.declared.timezone.transition_rule.TransitionRule.TheVariants.{Fixed, Alternate}
 use Rattle.tz_rule.proofs.RuleSegments.{IsInRuleYears-bounds}
-use Rattle.tz_zone.specs.Table.{Transition, Zone, zone_with, without_transitions}
-use Rattle.tz_zone.specs.LeapTime.{IsBeforeStart, IsPastInstants, IsLeapTimeRefused, IsLeapTime}
-use Rattle.tz_zone.specs.Clock.{IsTypeWithout, IsTypeAfter, IsClock}
-use Rattle.tz_zone.specs.ClockSegments.{IsReachedAt}
-use Rattle.tz_zone.specs.ValidZone.{AreLeapSeconds, IsSoundTable}
-use Rattle.tz_zone.specs.Changes.{Change, IsChange, IsFollowing, IsPreceding, HasNoChange, HasNoFollowing}
-use Rattle.tz_zone.specs.Changes.{HasNoPreceding}
-use Rattle.tz_zone.specs.Runs.{IsSeam, IsRunStart}
 use Rattle.tz_zone.proofs.LeapTimes.{past_later}
 use Rattle.tz_zone.proofs.InstantsWithLeapTime.{clock_without, leap_unless_refused, defined_within, past_from}
 use Rattle.tz_zone.proofs.Positions.{clock_after_position, type_after_position, position_later}

@@ -1,16 +1,5 @@
 -- What the extra rule answers at the last transition decides whether the zone is consistent.
-use Rattle.std.proofs.Common.{true, false, ◌≡◌, ◌≢◌, ◌∙◌, sym, ap, ℤ, List, Some}
-use Rattle.std.proofs.lemmas.Bool.{false≢true}
-use Rattle.std.proofs.lemmas.Option.{same_Some}
-use Rattle.tz_rule.specs.LocalTimeType.{LocalTimeType}
-use Rattle.tz_rule.specs.Rule.{IsRuleType}
-use Rattle.tz_rule.specs.Same.{same_type, Decides-same_type}
-use Rattle.tz_rule.specs.declared.timezone.transition_rule.TransitionRule.{TransitionRule}
-use Rattle.tz_rule.proofs.RuleTypes.{rule_type_unique}
-use Rattle.tz_zone.specs.Table.{Transition, LeapSecond, Zone}
-use Rattle.tz_zone.specs.LeapTime.{IsEffect}
-use Rattle.tz_zone.specs.Clock.{IsLast, IsTypeAt}
-use Rattle.tz_zone.specs.ValidZone.{HasBegunAt, IsRuleTypeAt, RuleAnswers, RuleAgrees}
+use Rattle.tz_zone.proofs.Common.{◌≡◌, sym, ℤ, ◌∙◌, ap, List, Some, LocalTimeType, Zone, LeapSecond, ◌≢◌, false, same_Some, true, TransitionRule, Transition, false≢true, IsTypeAt, IsRuleType, Decides-same_type, HasBegunAt, IsEffect, IsLast, rule_type_unique, IsRuleTypeAt, RuleAgrees, RuleAnswers, same_type}
 use Rattle.tz_zone.proofs.LeapTimes.{one_effect}
 
 pub no_rule_type_at : (leaps : List LeapSecond) (rule : TransitionRule) (v u : ℤ) → IsEffect leaps v u

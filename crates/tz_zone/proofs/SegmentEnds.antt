@@ -1,13 +1,5 @@
 -- Where a segment of the clock begins and ends the tables change.
-use Rattle.std.proofs.Common.{◌≡◌, ◌≢◌, ℕ, ◌-◌, ◌⊎◌, inl, inr, refl, sym, ap, subst, arith, ℤ, pos, negsuc, ◌+ℤ◌, ◌-ℤ◌, ◌≤ℤ◌, ◌<ℤ◌, List, [], ◌∷◌, length, Some}
-use Rattle.std.specs.Prelude.{slice_get}
-use Rattle.std.proofs.lemmas.Int.{ints, by_lt_z}
-use Rattle.std.proofs.lemmas.Option.{slice_get_within, none-some, same_Some}
-use Rattle.tz_zone.specs.Table.{Transition, LeapSecond, Zone}
-use Rattle.tz_zone.specs.LeapTime.{IsInstant, IsBeforeStart, IsPastInstants, IsLeapTimeRefused, IsTimeReached, IsWideEffect}
-use Rattle.tz_zone.specs.ValidZone.{AreLeapSeconds, IsSoundTable}
-use Rattle.tz_zone.specs.ClockSegments.{IsReachedAt, IsBefore}
-use Rattle.tz_zone.specs.TableChanges.{IsChangeByRule, IsTableChange, IsFar, HasTableEnds}
+use Rattle.tz_zone.proofs.Common.{◌≡◌, arith, ℕ, ints, refl, sym, inr, inl, length, ℤ, subst, ap, List, ◌≤ℤ◌, Some, ◌<ℤ◌, pos, ◌-ℤ◌, ◌-◌, Zone, [], ◌+ℤ◌, by_lt_z, negsuc, LeapSecond, slice_get, slice_get_within, ◌≢◌, same_Some, ◌∷◌, ◌⊎◌, IsReachedAt, AreLeapSeconds, IsWideEffect, IsInstant, Transition, IsLeapTimeRefused, IsPastInstants, IsTimeReached, IsSoundTable, IsBeforeStart, none-some, IsBefore, IsChangeByRule, HasTableEnds, IsFar, IsTableChange}
 use Rattle.tz_zone.proofs.LeapLists.{first_step}
 use Rattle.tz_zone.proofs.RisingTimes.{rising, reached_before}
 use Rattle.tz_zone.proofs.LeapTimes.{leap_time_mono, past_later, begun_later, not_past_within, not_refused_within, IsInstant-from_bounds, instant_bounds}

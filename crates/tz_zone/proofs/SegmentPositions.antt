@@ -1,11 +1,5 @@
 -- From the effect of the transition before a position up to the next one instants lie at the position.
-use Rattle.std.proofs.Common.{◌≡◌, ℕ, ℤ, ◌≤ℤ◌, Some}
-use Rattle.std.specs.Prelude.{slice_get}
-use Rattle.std.proofs.lemmas.Int.{by_lt_z}
-use Rattle.tz_zone.specs.Table.{Transition, Zone}
-use Rattle.tz_zone.specs.LeapTime.{IsInstant, IsPastInstants, IsTimeReached, IsWideEffect}
-use Rattle.tz_zone.specs.ValidZone.{AreLeapSeconds, IsRising, IsSoundTable}
-use Rattle.tz_zone.specs.ClockSegments.{IsReachedAt, IsBefore}
+use Rattle.tz_zone.proofs.Common.{◌≡◌, ℕ, ℤ, ◌≤ℤ◌, Some, Zone, by_lt_z, slice_get, IsReachedAt, AreLeapSeconds, IsWideEffect, IsInstant, Transition, IsPastInstants, IsTimeReached, IsSoundTable, IsBefore, IsRising}
 use Rattle.tz_zone.proofs.RisingTimes.{ahead_from, reached_before}
 use Rattle.tz_zone.proofs.LeapReached.{reached_since}
 use Rattle.tz_zone.proofs.SegmentEnds.{before_reached}

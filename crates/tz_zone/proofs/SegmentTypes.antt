@@ -1,14 +1,5 @@
 -- Where there is no change, and a segment as contracts see it.
-use Rattle.std.proofs.Common.{◌≡◌, ◌∙◌, sym, subst, arith, ℤ, pos, ◌-ℤ◌, Option, Some, None}
-use Rattle.std.specs.Prelude.{MatchOption, option_copied}
-use Rattle.std.specs.Borrow.{Bor}
-use Rattle.std.proofs.lemmas.Int.{ints}
-use Rattle.std.proofs.lemmas.Option.{MatchOption-at_none, none-some}
-use Rattle.tz_rule.specs.LocalTimeType.{LocalTimeType}
-use Rattle.tz_zone.specs.Table.{Zone}
-use Rattle.tz_zone.specs.Clock.{IsClock, HasNoType}
-use Rattle.tz_zone.specs.ClockSegments.{IsSegmentAt}
-use Rattle.tz_zone.specs.Changes.{Change, HasTypeOrNone, IsTrueSegment, IsChange}
+use Rattle.tz_zone.proofs.Common.{◌≡◌, arith, ints, sym, ℤ, ◌∙◌, subst, Some, pos, ◌-ℤ◌, LocalTimeType, Zone, Option, None, IsClock, MatchOption, Change, none-some, Bor, IsChange, HasNoType, option_copied, MatchOption-at_none, HasTypeOrNone, IsSegmentAt, IsTrueSegment}
 use Rattle.tz_zone.specs.declared.clock.segment.Segment.{Segment}
 use Rattle.tz_zone.proofs.Clocks.{one_type}
 

@@ -1,14 +1,8 @@
 -- What the settings answer, from what was found.
-use Rattle.std.proofs.Common.{◌≡◌, ℕ, List, subst, sym, inl, inr, ◌⊎◌, Result, Ok, Err}
-use Rattle.std.specs.Prelude.{alloc_error, Vec, vec_items}
-use Rattle.std.specs.Result.{MatchResult}
-use Rattle.std.specs.declared.alloc.Global.{Global}
+use Rattle.tz_zone.proofs.Common.{◌≡◌, ℕ, sym, inr, inl, subst, List, Zone, ◌⊎◌, Err, Ok, Result, MatchResult, Read, alloc_error, Global, Tz, Vec, Answer, IsFileAnswer, Opens, vec_items}
 use Rattle.tz_base.specs.declared.error.Error.{Error}
-use Rattle.tz_base.specs.declared.error.Error.TheVariants.{Tz}
 use Rattle.tz_base.specs.declared.error.ReadFault.TheVariants.{Memory}
 use Rattle.tz_base.specs.declared.error.TzError.TheVariants.{Memory as NoMemory}
-use Rattle.tz_zone.specs.Table.{Zone}
-use Rattle.tz_zone.specs.Settings.{Read, Answer, Opens, IsFileAnswer}
 
 -- an answer of this kind, or an allocation failure
 abbrev pub Answers : {T : Type 0} → (T → Zone) → Result T Error → (Answer → Type 0) → Type 0

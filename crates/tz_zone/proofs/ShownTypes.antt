@@ -1,12 +1,5 @@
 -- What holds of each type of a zone's list and of its rule holds of each type that its clock shows.
-use Rattle.std.proofs.Common.{◌≡◌, ℕ, inl, inr, refl, sym, subst, ℤ, Option, Some, None}
-use Rattle.std.specs.Prelude.{slice_get}
-use Rattle.tz_rule.specs.LocalTimeType.{LocalTimeType}
-use Rattle.tz_rule.specs.Rule.{IsRuleType}
-use Rattle.tz_rule.specs.declared.timezone.transition_rule.TransitionRule.{TransitionRule}
-use Rattle.tz_rule.specs.declared.timezone.transition_rule.TransitionRule.TheVariants.{Fixed, Alternate}
-use Rattle.tz_zone.specs.Clock.{IsTypeAfter, IsTypeWithout, IsTransitionType, IsClock}
-use Rattle.tz_zone.specs.Table.{Zone}
+use Rattle.tz_zone.proofs.Common.{◌≡◌, ℕ, refl, sym, inr, inl, ℤ, subst, Some, LocalTimeType, Zone, Option, slice_get, None, IsClock, TransitionRule, IsTypeWithout, IsRuleType, IsTypeAfter, Fixed, Alternate, IsTransitionType}
 
 -- a fact of the type of a fixed rule, or of both types of an alternate one
 abbrev pub HoldsOfRule : (LocalTimeType → Type 0) → TransitionRule → Type 0

@@ -1,14 +1,6 @@
 -- What the loops over a table give: facts at all indexes, from facts at the indexes so far.
-use Rattle.std.proofs.Common.{◌≡◌, ℕ, ◌+◌, ◌<◌, ◌≤◌, refl, sym, arith, ◌∙◌, List, length, get_or, Some, Bool, true, false, MatchBool, ℤ, ◌<ℤ◌}
-use Rattle.std.specs.Prelude.{slice_get}
+use Rattle.tz_zone.proofs.Common.{◌≡◌, arith, to_z-of_z, ℕ, ints, w64, refl, sym, length, ℤ, ◌∙◌, ◌<◌, List, Some, ◌<ℤ◌, ◌≤◌, ◌+◌, SFits, LeapSecond, slice_get, slice_get_within, slice_get_read, to_z, false, same_Some, of_z, AreLeapSeconds, true, Bool, Transition, get_or, MatchBool, FollowsAt, HasTypeAtIndex, RisesAtIndex, MatchBool-lt_z, MayBeFirst}
 use Rattle.std.specs.Int.Signed.{lt_z}
-use Rattle.std.proofs.lemmas.Int.{ints, to_z-of_z}
-use Rattle.std.proofs.lemmas.Option.{slice_get_read, slice_get_within, same_Some}
-use mir.Syntax.{w64}
-use mir.Val.{SFits, to_z, of_z}
-use Rattle.tz_rule.proofs.WeakerClauses.{MatchBool-lt_z}
-use Rattle.tz_zone.specs.Table.{Transition, LeapSecond}
-use Rattle.tz_zone.specs.ValidZone.{MayBeFirst, FollowsAt, AreLeapSeconds, HasTypeAtIndex, RisesAtIndex}
 
 -- what is read at an index is its item
 pub item_read : {X : Type 0} (xs : List X) (i : ℕ) (x y : X) → i < length xs → x ≡ get_or xs i x

@@ -1,19 +1,7 @@
 -- The faults of a whole text, from where they stand.
-use Rattle.std.proofs.Common.{◌≡◌, ◌≢◌, ℕ, Bool, false, List, [], ◌∷◌, refl, ap, ◌∙◌, inl, inr, Option, Some, ℤ, pos}
-use Rattle.std.specs.Prelude.{FitsSigned}
+use Rattle.tz_zone.proofs.Common.{◌≡◌, to_z-of_z, ℕ, refl, inr, inl, ℤ, ◌∙◌, ap, List, Some, pos, LocalTimeType, [], Option, ◌≢◌, to_z, false, ◌∷◌, of_z, Bool, FitsSigned, TzError, AlternateText, IsAlternateText, IsRuleText, TzString, IsDaylightOffset, IsFirstTypeFault, IsName, IsSignedTime, IsTzTextFault, LocalTimeTypeError, WrittenTime, comma, rule_of, type_of, IsDaylightFault, IsNameFault, IsOffsetFault, IsRulesFault, TzStringError, alternate_of, std_type_of, dst_type_of, seconds_of}
 use Rattle.std.specs.Int.{w32}
-use Rattle.std.proofs.lemmas.Int.{to_z-of_z}
-use mir.Val.{to_z, of_z}
-use Rattle.tz_base.specs.declared.error.TzError.{TzError}
-use Rattle.tz_base.specs.declared.error.TzError.TheVariants.{TzString, LocalTimeType as TypeFault}
-use Rattle.tz_base.specs.declared.error.TzStringError.{TzStringError}
-use Rattle.tz_base.specs.declared.error.LocalTimeTypeError.{LocalTimeTypeError}
-use Rattle.tz_rule.specs.Alternate.{alternate_of}
-use Rattle.tz_rule.specs.LocalTimeType.{LocalTimeType, IsFirstTypeFault, type_of}
-use Rattle.tz_zone.specs.Bytes.{comma}
-use Rattle.tz_zone.specs.declared.parse.tz_string.WrittenTime.{WrittenTime}
-use Rattle.tz_zone.specs.TzText.{IsName, IsSignedTime, IsDaylightOffset, IsRuleText, AlternateText, IsAlternateText, std_type_of, dst_type_of, seconds_of, rule_of}
-use Rattle.tz_zone.specs.TzTextFault.{IsOffsetFault, IsNameFault, IsDaylightFault, IsRulesFault, IsTzTextFault}
+use Rattle.tz_base.specs.declared.error.TzError.TheVariants.{LocalTimeType as TypeFault}
 
 -- a name that is no designation
 pub bad_name : (text name rest : List ℕ) (f : LocalTimeTypeError) → IsName text name rest

@@ -1,13 +1,6 @@
 -- Faults of a month, a week and a week day.
-use Rattle.std.proofs.Common.{ℕ, List, ◌∷◌, refl, inl, inr}
-use Rattle.tz_base.specs.declared.error.TzError.{TzError}
+use Rattle.tz_zone.proofs.Common.{ℕ, refl, inr, inl, List, ◌∷◌, TzError, IsNumber, IsMonthWeekText, dot, InvalidRuleDayMonth, InvalidRuleDayWeek, InvalidRuleDayWeekDay, IsDayNumberFault, IsMonthWeekDayFault, IsRuleWeek, IsRuleWeekDay, MonthWeek, TransitionRuleError, IsFirstMonthWeekFault}
 use Rattle.tz_base.specs.declared.error.TzError.TheVariants.{TransitionRule}
-use Rattle.tz_base.specs.declared.error.TransitionRuleError.{TransitionRuleError}
-use Rattle.tz_base.specs.declared.error.TransitionRuleError.TheVariants.{InvalidRuleDayMonth, InvalidRuleDayWeek, InvalidRuleDayWeekDay}
-use Rattle.tz_rule.specs.MonthWeek.{MonthWeek, IsRuleWeek, IsRuleWeekDay, IsFirstMonthWeekFault}
-use Rattle.tz_zone.specs.Bytes.{dot}
-use Rattle.tz_zone.specs.TzText.{IsNumber, IsMonthWeekText}
-use Rattle.tz_zone.specs.TzTextFault.{IsDayNumberFault, IsMonthWeekDayFault}
 
 pub week_fails : (text : List ℕ) (month : ℕ) (week : List ℕ) (e : TzError) → IsNumber text month (dot ∷ week)
     → IsDayNumberFault 8 IsRuleWeek InvalidRuleDayWeek week e → IsMonthWeekDayFault text e

@@ -1,33 +1,10 @@
 -- What is read and in range has none of the faults: a TZ string has no fault that is there.
-use Rattle.std.proofs.Common.{◌≡◌, ◌≢◌, ◌⊎◌, ℕ, ◌^◌, ◌<◌, ◌≤◌, Bool, true, false, List, [], ◌∷◌, ◌++◌, refl, sym, ap, ◌∙◌, subst, inl, inr, arith, Option, Some, None, Result, Ok, Err, pos}
+use Rattle.tz_zone.proofs.Common.{◌≡◌, arith, ℕ, refl, sym, inr, inl, ◌∙◌, subst, ◌<◌, ap, List, Some, pos, ◌≤◌, [], Option, ◌≢◌, None, false, ◌∷◌, ◌⊎◌, true, Bool, TransitionRule, ◌++◌, Err, Ok, Result, TzError, ◌^◌, IsNumber, AlternateText, Fixed, IsAlternateText, IsRuleText, Begins, IsDaylightOffset, IsFirstTypeFault, IsMonthWeekText, IsName, IsSignedTime, IsTzTextFault, LocalTimeTypeError, MatchResult, WrittenTime, comma, dot, rule_of, slash, type_of, DayAndTime, InvalidRuleDayMonth, InvalidRuleDayWeek, InvalidRuleDayWeekDay, InvalidTimeZoneDesignationChar, InvalidTimeZoneDesignationLength, InvalidUtcOffset, IsAlternateInRange, IsDay, IsDayNumberFault, IsDayTime, IsDayTimeSign, IsDaylightFault, IsDesignation, IsHms, IsMonthWeekDayFault, IsNameAndOffset, IsNameFault, IsNumberFault, IsOffsetFault, IsPart, IsRuleWeek, IsRuleWeekDay, IsRulesFault, IsSign, IsUnclosed, Julian0WithLeap, Julian1WithoutLeap, MonthWeek, MonthWeekDay, RuleDay, TransitionRuleError, TzStringError, UnexpectedEof, capital_j, capital_m, closing_bracket, std_type_of, AlternateTime, FailsFrom, InText, InvalidData, InvalidDstStartEndTime, InvalidDstUtcOffset, InvalidRuleDayJulianDay, InvalidStdUtcOffset, IsConsistentRule, IsDayFault, IsDayTimeFault, IsFirstRuleFault, IsHmsFault, IsInRuleRange, IsLastRuleFault, IsMissingByte, IsMonthWeek, IsPartFault, IsRangeFault, IsRuleInRange, IsRuleMonth, IsRuleTextFault, IsTimeAbove, IsTimeFault, IsTimeUpTo, IsTzText, LacksRules, Reached, TimeFaults, day_time_faults, day_time_hours, offset_faults, offset_hours}
 use Rattle.std.specs.Option.{IfSome}
-use Rattle.std.specs.Result.{MatchResult}
-use Rattle.tz_base.specs.declared.error.TzError.{TzError}
 use Rattle.tz_base.specs.declared.error.ParseDataError.{ParseDataError}
-use Rattle.tz_base.specs.declared.error.ParseDataError.TheVariants.{UnexpectedEof, InvalidData}
-use Rattle.tz_base.specs.declared.error.TzStringError.{TzStringError}
-use Rattle.tz_base.specs.declared.error.LocalTimeTypeError.{LocalTimeTypeError}
-use Rattle.tz_base.specs.declared.error.LocalTimeTypeError.TheVariants.{InvalidTimeZoneDesignationLength, InvalidTimeZoneDesignationChar, InvalidUtcOffset}
-use Rattle.tz_base.specs.declared.error.TransitionRuleError.{TransitionRuleError}
-use Rattle.tz_base.specs.declared.error.TransitionRuleError.TheVariants.{InvalidRuleDayJulianDay, InvalidRuleDayMonth, InvalidRuleDayWeek, InvalidRuleDayWeekDay, InvalidStdUtcOffset, InvalidDstUtcOffset, InvalidDstStartEndTime}
-use Rattle.tz_rule.specs.LocalTimeType.{IsDesignation, IsFirstTypeFault, type_of}
-use Rattle.tz_rule.specs.Alternate.{AlternateTime, IsInRuleRange, IsConsistentRule, IsRangeFault, IsFirstRuleFault}
 use Rattle.tz_rule.specs.JulianDay.{IsJulianDay, IsZeroBasedDay}
-use Rattle.tz_rule.specs.MonthWeek.{MonthWeek, IsMonthWeek, IsRuleMonth, IsRuleWeek, IsRuleWeekDay}
-use Rattle.tz_rule.specs.declared.timezone.transition_rule.TransitionRule.{TransitionRule}
-use Rattle.tz_rule.specs.declared.timezone.transition_rule.TransitionRule.TheVariants.{Fixed, Alternate as Alternating}
-use Rattle.tz_rule.specs.declared.timezone.rule_day.RuleDay.{RuleDay}
-use Rattle.tz_rule.specs.declared.timezone.rule_day.RuleDay.TheVariants.{Julian1WithoutLeap, Julian0WithLeap, MonthWeekDay}
-use Rattle.tz_zone.specs.Bytes.{capital_j, capital_m, closing_bracket, comma, dot, slash}
-use Rattle.tz_zone.specs.declared.parse.tz_string.DayAndTime.{DayAndTime}
-use Rattle.tz_zone.specs.declared.parse.tz_string.WrittenTime.{WrittenTime}
-use Rattle.tz_zone.specs.TzText.{Begins, IsNumber, IsName, IsPart, IsHms, IsSign, IsSignedTime, IsDayTimeSign, IsDayTime, IsMonthWeekText, IsDay, IsRuleText, IsDaylightOffset, IsTimeUpTo, offset_hours, day_time_hours, IsRuleInRange, IsNameAndOffset, AlternateText, IsAlternateText, IsAlternateInRange, std_type_of, rule_of, IsTzText}
+use Rattle.tz_rule.specs.declared.timezone.transition_rule.TransitionRule.TheVariants.{Alternate as Alternating}
 use Rattle.tz_rule.specs.RuleDays.{IsRuleDay}
-use Rattle.tz_zone.specs.TzTextFault.{Reached, IsMissingByte, IsNumberFault, TimeFaults, day_time_faults, offset_faults}
-use Rattle.tz_zone.specs.TzTextFault.{IsPartFault, IsTimeFault, IsTimeAbove, IsHmsFault, IsOffsetFault, IsDayTimeFault}
-use Rattle.tz_zone.specs.TzTextFault.{FailsFrom, IsDayNumberFault, IsMonthWeekDayFault, IsDayFault, IsRuleTextFault}
-use Rattle.tz_zone.specs.TzTextFault.{IsLastRuleFault, IsRulesFault, IsUnclosed, IsNameFault, LacksRules}
-use Rattle.tz_zone.specs.TzTextFault.{IsDaylightFault, InText, IsTzTextFault}
 use Rattle.tz_zone.proofs.TextReadings.{IsOne, same_byte, same_rest, run_is_one, number_is_one, part_is_one, sign_is_one, day_time_sign_is_one, signed_time_is_one, day_is_one, times_are_one, rule_text_is_one, name_is_one, daylight_offset_is_one, name_and_offset_is_one, alternate_text_is_one, no_digit}
 
 -- what is said of the one thing read

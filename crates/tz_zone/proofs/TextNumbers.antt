@@ -1,25 +1,10 @@
 -- Digits that are cut out of a text are text, and `parse` gives their number or says that there are none, or too many.
-use Rattle.std.proofs.Common.{◌≡◌, ◌≢◌, ℕ, ◌+◌, ◌*◌, ◌^◌, ◌<◌, ◌≤◌, ◌&&◌, Bool, true, false, cond, ℤ, pos}
-use Rattle.std.proofs.Common.{List, [], ◌∷◌, length, get_or, Result, Err, inl, inr}
-use Rattle.std.proofs.Common.{sym, ap, ◌∙◌, refl, le-leb, arith}
-use Rattle.std.proofs.lemmas.Bool.{cases_lt, ne_eqb}
-use Rattle.std.proofs.lemmas.List.{get_or_past, nil_from_length}
-use Rattle.std.proofs.lemmas.List.Sums.{take_while-cons}
+use Rattle.tz_zone.proofs.Common.{◌≡◌, arith, ℕ, refl, sym, inr, inl, length, ℤ, ◌∙◌, ◌<◌, ap, List, pos, ◌≤◌, [], ◌+◌, ◌≢◌, false, ◌∷◌, true, Bool, cases_lt, get_or, take_while, Err, Result, cond, nil_from_length, ◌^◌, IsNumber, IsRun, ParseInt, is_ascii_digit, take_while-cons, IsNumberFault, digits_value, ne_eqb, ◌*◌, ExplainsSignedError, ExplainsUnsignedError, IsAscii, IsInRange, IsParseIntError, IsUtf8, OkIff, ParsesSigned, ParsesUnsigned, all_ascii_digits, digit_value, error_kind, get_or_past, le-leb, starts_with_minus, ◌&&◌}
 use Rattle.std.proofs.lemmas.Str.{IsUtf8-from_ascii, digit_value_digit}
-use Rattle.std.proofs.lemmas.Str.Parse.{IsNumeralModel, numerals_by_value, tells_all_ascii_digits, digit_at}
-use Rattle.std.proofs.lemmas.Str.Parse.{not_in_digits, without_leading_plus_none, parse_digits, parse_signed_digits}
-use Rattle.std.specs.Char.{is_ascii_digit, digit_value}
-use Rattle.std.specs.Int.{w32, IsInRange}
-use Rattle.std.specs.List.{take_while}
-use Rattle.std.specs.Result.{OkIff}
-use Rattle.std.specs.Str.{all_ascii_digits, IsAscii, IsUtf8}
-use Rattle.std.specs.Str.Parse.{digits_value, error_kind, starts_with_minus, ParsesUnsigned, ParsesSigned}
-use Rattle.std.specs.Str.Parse.{IsParseIntError, ExplainsUnsignedError, ExplainsSignedError}
+use Rattle.std.proofs.lemmas.Str.Parse.{IsNumeralModel, numerals_by_value, tells_all_ascii_digits, digit_at, not_in_digits, without_leading_plus_none, parse_digits, parse_signed_digits}
+use Rattle.std.specs.Int.{w32}
 use Rattle.std.specs.declared.num.IntErrorKind.TheVariants.{PosOverflow}
 use Rattle.std.specs.declared.num.ParseIntError.{ParseIntError}
-use Rattle.tz_base.specs.declared.error.TzStringError.TheVariants.{ParseInt}
-use Rattle.tz_zone.specs.TzText.{IsRun, IsNumber}
-use Rattle.tz_zone.specs.TzTextFault.{IsNumberFault}
 
 one_more : (digit : Bool) (b : ℕ) (ds : List ℕ) → is_ascii_digit b ≡ digit → all_ascii_digits ds ≡ true
     → all_ascii_digits (cond digit (b ∷ ds) []) ≡ true

@@ -1,11 +1,5 @@
 -- Where a run ends: at a byte that does not pass, or at the end of the text.
-use Rattle.std.proofs.Common.{◌≡◌, ℕ, Bool, true, false, cond, List, [], ◌∷◌, ◌++◌, eqb, refl, ap, ◌∙◌, subst}
-use Rattle.std.proofs.lemmas.Bool.{not-false, eqb-true}
-use Rattle.std.proofs.lemmas.List.Sums.{take_while-cons}
-use Rattle.std.specs.List.{take_while}
-use Rattle.tz_zone.specs.Bytes.{closing_bracket, opening_bracket}
-use Rattle.tz_zone.specs.TzText.{Begins, IsRun, is_in_brackets}
-use Rattle.tz_zone.specs.TzTextFault.{IsUnclosed}
+use Rattle.tz_zone.proofs.Common.{◌≡◌, ℕ, refl, ◌∙◌, subst, ap, List, [], false, ◌∷◌, true, Bool, eqb, ◌++◌, take_while, cond, IsRun, Begins, eqb-true, take_while-cons, IsUnclosed, closing_bracket, is_in_brackets, not-false, opening_bracket}
 
 end_of_step : (test : ℕ → Bool) (x b : ℕ) (xs rest : List ℕ) (d : Bool) → test x ≡ d
     → (xs ≡ take_while test xs ++ (b ∷ rest) → test b ≡ false)

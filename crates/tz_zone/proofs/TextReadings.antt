@@ -1,18 +1,5 @@
 -- Each part of the grammar of TZ strings reads one thing at the front of a text.
-use Rattle.std.proofs.Common.{◌≡◌, ◌≢◌, ℕ, Bool, true, false, cond, List, [], ◌∷◌, ◌++◌, refl, sym, ap, ◌∙◌, inl, inr, arith, Option, Some, None}
-use Rattle.std.proofs.lemmas.Bool.{false≢true}
-use Rattle.std.proofs.lemmas.List.{append_cancel_left}
-use Rattle.std.proofs.lemmas.List.Sums.{take_while-cons}
-use Rattle.std.specs.Char.{is_ascii_digit}
-use Rattle.std.specs.List.{take_while}
-use Rattle.std.specs.Str.Parse.{digits_value}
-use Rattle.tz_rule.specs.MonthWeek.{month_week}
-use Rattle.tz_rule.specs.declared.timezone.rule_day.RuleDay.{RuleDay}
-use Rattle.tz_rule.specs.declared.timezone.rule_day.RuleDay.TheVariants.{Julian1WithoutLeap, Julian0WithLeap, MonthWeekDay}
-use Rattle.tz_zone.specs.Bytes.{capital_j, capital_m, comma, dot}
-use Rattle.tz_zone.specs.declared.parse.tz_string.DayAndTime.{DayAndTime}
-use Rattle.tz_zone.specs.declared.parse.tz_string.WrittenTime.{WrittenTime}
-use Rattle.tz_zone.specs.TzText.{IsRun, IsNumber, IsName, IsPart, IsHms, IsSign, IsSignedTime, IsDayTimeSign, IsDayTime, IsMonthWeekText, IsDay, IsTimeOfRule, IsRuleText, IsDaylightOffset, IsNameAndOffset, AlternateText, IsAlternateText}
+use Rattle.tz_zone.proofs.Common.{◌≡◌, arith, ℕ, refl, sym, inr, inl, ◌∙◌, ap, List, Some, [], Option, ◌≢◌, None, false, ◌∷◌, true, Bool, false≢true, ◌++◌, take_while, cond, IsNumber, AlternateText, IsAlternateText, IsRuleText, IsRun, IsDaylightOffset, IsMonthWeekText, IsName, IsSignedTime, WrittenTime, comma, dot, is_ascii_digit, month_week, take_while-cons, DayAndTime, IsDay, IsDayTime, IsDayTimeSign, IsHms, IsNameAndOffset, IsPart, IsSign, Julian0WithLeap, Julian1WithoutLeap, MonthWeekDay, RuleDay, capital_j, capital_m, digits_value, IsTimeOfRule, append_cancel_left}
 
 abbrev pub IsOne : {A : Type 0} → (List ℕ → A → List ℕ → Type 0) → Type 0
 IsOne {A} reads = (text : List ℕ) (x y : A) (rest more : List ℕ) → reads text x rest → reads text y more

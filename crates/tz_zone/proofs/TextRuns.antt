@@ -1,9 +1,6 @@
 -- A text split where a run ends.
-use Rattle.std.proofs.Common.{◌≡◌, ℕ, Bool, List, ◌++◌, length, take, drop, sym, ap, ◌∙◌}
-use Rattle.std.proofs.lemmas.List.{take-append-drop}
+use Rattle.tz_zone.proofs.Common.{◌≡◌, ℕ, sym, length, ◌∙◌, ap, List, Bool, ◌++◌, take_while, drop, IsRun, take, take-append-drop}
 use Rattle.std.proofs.lemmas.List.Folds.{length-prefix_len}
-use Rattle.std.specs.List.{take_while}
-use Rattle.tz_zone.specs.TzText.{IsRun}
 
 pub run_of_split : (test : ℕ → Bool) (text run rest : List ℕ) (n : ℕ) → n ≡ length (take_while test text)
     → run ≡ take n text → rest ≡ drop n text → IsRun test text run rest

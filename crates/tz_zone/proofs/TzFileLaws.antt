@@ -1,23 +1,10 @@
 -- Bytes of a TZif file denote one zone, and no fault of theirs is there.
-use Rattle.std.proofs.Common.{◌≡◌, ℕ, length, Bool, List, Option, Some, None, Result, Ok, Err, refl, sym, ap, subst, ◌∙◌, inl, inr, arith}
-use Rattle.std.specs.Prelude.{IfOk, OnOk, alloc_error}
-use Rattle.std.specs.Int.{Width, w32, w64}
-use Rattle.tz_base.specs.declared.error.TzError.{TzError}
-use Rattle.tz_base.specs.declared.error.TzError.TheVariants.{TzFile, LocalTimeType as TypeFault, Memory}
-use Rattle.tz_base.specs.declared.error.ParseDataError.TheVariants.{UnexpectedEof}
+use Rattle.tz_zone.proofs.Common.{◌≡◌, arith, ℕ, refl, sym, inr, inl, length, ◌∙◌, subst, ap, List, Some, LocalTimeType, Zone, Option, None, Bool, TransitionRule, Err, Ok, Result, TzError, IsLocalTimeType, zone_with, IsFirstTypeFault, IsReadFault, IsTypeRecord, LocalTimeTypeError, Part, after, alloc_error, part_of, type_at, Block, ContentFails, HoldsLeapSeconds, IfOk, InvalidTimeZoneDesignationChar, InvalidTimeZoneDesignationLength, InvalidUtcOffset, IsContent, IsDesignation, IsFirstZoneFault, IsTzFile, IsValidZone, Memory, UnexpectedEof, Width, footer_of, trimmed, zone_of_part, ExtraRuleFails, FileFails, FooterFails, FrameFails, HasTables, HeaderFails, IfSome-weaker, IsExtraRule, IsFirstTransitionFault, IsFooter, IsFramed, IsHeader, IsUnit, MayHold, OnOk, TypeFails, TzFile, UnitFails, is_extended}
+use Rattle.std.specs.Int.{w32, w64}
+use Rattle.tz_base.specs.declared.error.TzError.TheVariants.{LocalTimeType as TypeFault}
 use Rattle.tz_base.specs.declared.error.TzFileError.{TzFileError}
 use Rattle.tz_base.specs.declared.error.TzFileError.TheVariants.{ParseData, InvalidMagicNumber, UnsupportedTzFileVersion, InvalidHeader, InvalidDstIndicator, InvalidTimeZoneDesignationCharIndex, Utf8, InvalidFooter}
 use Rattle.tz_base.specs.declared.error.TimeZoneError.{TimeZoneError}
-use Rattle.tz_base.specs.declared.error.LocalTimeTypeError.{LocalTimeTypeError}
-use Rattle.tz_base.specs.declared.error.LocalTimeTypeError.TheVariants.{InvalidTimeZoneDesignationLength, InvalidTimeZoneDesignationChar, InvalidUtcOffset}
-use Rattle.tz_rule.specs.LocalTimeType.{LocalTimeType, IsDesignation, IsLocalTimeType, IsFirstTypeFault}
-use Rattle.tz_rule.specs.declared.timezone.transition_rule.TransitionRule.{TransitionRule}
-use Rattle.tz_rule.proofs.WeakerClauses.{IfSome-weaker}
-use Rattle.tz_zone.specs.Table.{Zone, zone_with}
-use Rattle.tz_zone.specs.ValidZone.{IsFirstTransitionFault, IsValidZone, IsFirstZoneFault}
-use Rattle.tz_zone.specs.TzFile.{IsHeader, IsUnit, IsTypeRecord, IsContent, IsFramed, IsTzFile, Block, Part, type_at, after, part_of, footer_of, trimmed, IsFooter, IsExtraRule, is_extended, MayHold, HoldsLeapSeconds, zone_of_part}
-use Rattle.tz_zone.specs.TzFileFault.{HeaderFails, UnitFails, FrameFails, FooterFails, ExtraRuleFails, TypeFails, ContentFails, FileFails, IsReadFault}
-use Rattle.tz_zone.specs.TzParts.{HasTables}
 use Rattle.tz_zone.proofs.TextFaults.{no_text_fault, one_rule}
 use Rattle.tz_zone.specs.declared.parse.tz_file.Tables.{Tables}
 

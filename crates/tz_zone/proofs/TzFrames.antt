@@ -1,12 +1,7 @@
 -- What is read of a file, by the version of its first header; and its footer.
-use Rattle.std.proofs.Common.{◌≡◌, ℕ, eqb, List, drop, Some, None, refl}
+use Rattle.tz_zone.proofs.Common.{◌≡◌, ℕ, refl, List, Some, None, eqb, drop, after, part_of, footer_of, ne_eqb, part_with, slice_index, trimmed, IsFirstVersion, IsTrimAscii, cond-false, cond-true, eq-eqb, is_ascii_whitespace, prefix_len, trimmed_start}
 use Rattle.std.specs.Int.{w32, w64}
-use Rattle.std.specs.Char.{is_ascii_whitespace}
-use Rattle.std.specs.List.{prefix_len, slice_index}
-use Rattle.std.specs.Str.{IsTrimAscii}
-use Rattle.std.proofs.lemmas.Bool.{eq-eqb, ne_eqb, cond-true, cond-false}
 use Rattle.std.proofs.lemmas.Str.Ascii.{trim_ascii_is}
-use Rattle.tz_zone.specs.TzFile.{IsFirstVersion, part_with, part_of, footer_of, after, trimmed_start, trimmed}
 
 -- in version 1 the first unit is read, and there is no footer
 pub part_of_first : (bytes : List ℕ) → IsFirstVersion bytes → part_of bytes ≡ part_with w32 bytes

@@ -1,13 +1,6 @@
 -- Where a zero byte is found, a name ends there; where none is, no name ends.
-use Rattle.std.proofs.Common.{◌≡◌, ℕ, ◌+◌, ◌-◌, ◌<◌, ◌≤◌, Bool, false, true, cond, ltb, List, length, get_or, take, drop, Option, Some, None, refl, sym, ap, ◌∙◌, arith}
-use Rattle.std.specs.Prelude.{◌==◌}
-use Rattle.std.specs.List.{position_or_len, position_from}
-use Rattle.std.proofs.lemmas.Bool.{eqb-true, eqb-false, ltb-true, ltb-false}
-use Rattle.std.proofs.lemmas.List.{get_or-drop, length-drop}
+use Rattle.tz_zone.proofs.Common.{◌≡◌, arith, ℕ, refl, sym, length, ◌∙◌, ◌<◌, ap, List, Some, ◌-◌, ◌≤◌, ◌+◌, Option, slice_get_within, None, false, true, Bool, get_or, cond, drop, slice_get-get_or, eqb-true, get_or_from_slice_get, take, HasName, eqb-false, fails_before_first, get_or-drop, length-drop, ltb, ltb-false, ltb-true, name_at, passes_at_first, position_from, position_or_len, ◌==◌}
 use Rattle.std.proofs.lemmas.Iterator.Adapters.{position_from-zero}
-use Rattle.std.proofs.lemmas.List.Sums.{fails_before_first, passes_at_first}
-use Rattle.std.proofs.lemmas.Option.{slice_get-get_or, get_or_from_slice_get, slice_get_within}
-use Rattle.tz_zone.specs.TzFile.{HasName, name_at}
 
 get_or_at : (names : List ℕ) (i j : ℕ) → i ≡ j → get_or names j 0 ≡ 0 → get_or names i 0 ≡ 0
 get_or_at names i j is at = ap (λ k. get_or names k 0) is ∙ at

@@ -1,8 +1,6 @@
 -- A table of one more record is the table and that record.
-use Rattle.std.proofs.Common.{◌≡◌, ℕ, ◌+◌, List, [], ◌∷◌, ◌++◌, refl, zero-add}
-use Rattle.std.specs.Int.{Width}
+use Rattle.tz_zone.proofs.Common.{◌≡◌, ℕ, refl, List, [], ◌+◌, ◌∷◌, ◌++◌, type_at, Block, Width, leaps_of, transitions_of, types_of, change_at, leap_at, zero-add}
 use Rattle.std.proofs.lemmas.List.FromFn.{map-range_with_len_more}
-use Rattle.tz_zone.specs.TzFile.{Block, change_at, leap_at, type_at, transitions_of, leaps_of, types_of}
 
 pub transitions_none : (w : Width) (block : Block) → transitions_of w block 0 ≡ []
 unfolding transitions_of

@@ -1,11 +1,5 @@
 -- The wide effect of a leap time, from the count of leap seconds up to it.
-use Rattle.std.proofs.Common.{◌≡◌, ℕ, suc, ◌<◌, ◌≤◌, ◌⊎◌, inl, inr, refl, arith, ℤ, ◌-ℤ◌, ◌≤ℤ◌, ◌<ℤ◌, List, length, Some}
-use Rattle.std.specs.Prelude.{slice_get}
-use Rattle.std.specs.Int.{int_max}
-use Rattle.std.proofs.lemmas.Int.{ints, int_max_is}
-use Rattle.tz_zone.specs.Table.{LeapSecond}
-use Rattle.tz_zone.specs.LeapTime.{IsInstant, IsStart, correction_before, IsWideEffect}
-use Rattle.tz_zone.specs.ValidZone.{AreLeapSeconds, HasBegunAt}
+use Rattle.tz_zone.proofs.Common.{◌≡◌, arith, ℕ, ints, refl, inr, inl, length, ℤ, ◌<◌, List, ◌≤ℤ◌, Some, ◌<ℤ◌, ◌-ℤ◌, ◌≤◌, LeapSecond, slice_get, ◌⊎◌, suc, AreLeapSeconds, IsWideEffect, IsInstant, correction_before, int_max, IsStart, HasBegunAt, int_max_is}
 use Rattle.tz_zone.proofs.OffsetBounds.{int_max_either}
 use Rattle.tz_zone.proofs.LeapSteps.{IsTimeCount, IsEffectByCount}
 use Rattle.tz_zone.proofs.LeapLists.{time_at, time_at-is, correction_before-suc, correction_without_start, item_at}

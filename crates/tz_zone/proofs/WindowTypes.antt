@@ -1,8 +1,5 @@
 -- The types of a clock from those of its parts.
-use Rattle.std.proofs.Common.{ℕ, Option, arith, ℤ, ◌≤ℤ◌}
-use Rattle.std.proofs.lemmas.Int.{ints}
-use Rattle.tz_rule.specs.LocalTimeType.{LocalTimeType}
-use Rattle.tz_zone.specs.WindowTypes.{AreTypesIn, IfMore}
+use Rattle.tz_zone.proofs.Common.{arith, ℕ, ints, ℤ, ◌≤ℤ◌, LocalTimeType, Option, AreTypesIn, IfMore}
 use Rattle.tz_zone.specs.declared.clock.window_types.WindowTypes.{WindowTypes}
 use Rattle.tz_zone.specs.declared.clock.window_types.WindowTypes.TheVariants.{One, Two, More}
 

@@ -1,7 +1,5 @@
 -- The civil fields of a total have this total.
-use Rattle.std.proofs.Common.{ap, ◌∙◌, arith}
-use Rattle.std.proofs.lemmas.Int.{ints}
-use Rattle.tz_base.specs.Fields.{total_nanoseconds_of}
+use Rattle.tz.proofs.Common.{arith, ◌∙◌, ints, ap, total_nanoseconds_of}
 use Rattle.tz.proofs.laws.added_durations_come_back.Goals as goal
 
 pub returns-clause-ok : goal.returns-clause-ok

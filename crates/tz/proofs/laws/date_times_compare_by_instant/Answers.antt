@@ -1,8 +1,5 @@
 -- The order of seconds and then of nanoseconds is that of the totals.
-use Rattle.std.proofs.Common.{◌≡◌, ◌⊎◌, ◌<◌, ◌<ℤ◌, inl, inr, arith}
-use Rattle.std.proofs.lemmas.Int.{ints}
-use Rattle.std.specs.Cmp.{int_cmp_is}
-use Rattle.tz.specs.DateTimes.{DateTime, IsDateTime, moment_cmp, total_of}
+use Rattle.tz.proofs.Common.{arith, ◌≡◌, ints, inr, inl, ◌<◌, ◌<ℤ◌, ◌⊎◌, DateTime, IsDateTime, int_cmp_is, moment_cmp, total_of}
 use Rattle.tz.proofs.ComparisonsByParts.{nat_ranked, int_ranked, then_ranked, weaker_ranks}
 use Rattle.tz.proofs.laws.date_times_compare_by_instant.Goals as goal
 

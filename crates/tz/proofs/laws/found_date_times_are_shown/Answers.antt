@@ -1,11 +1,5 @@
 -- The clock has the type of a date time that is found, which shows its fields.
-use Rattle.std.proofs.Common.{◌<◌, ◌+ℤ◌, ◌∙◌, refl, sym, ap, subst}
-use Rattle.std.proofs.lemmas.List.Elements.{All-contains}
-use Rattle.tz_base.specs.Fields.{IsCivil, IsValid, reading}
-use Rattle.tz_base.specs.declared.fields.Fields.{Fields}
-use Rattle.tz_zone.specs.Clock.{IsClock}
-use Rattle.tz.specs.Found.{IsFoundBy}
-use Rattle.tz.specs.declared.datetime.found.FoundDateTimeKind.TheVariants.{Normal}
+use Rattle.tz.proofs.Common.{refl, subst, ◌∙◌, sym, ap, ◌<◌, Fields, IsClock, ◌+ℤ◌, IsValid, reading, Normal, IsFoundBy, All-contains, IsCivil}
 use Rattle.tz.proofs.laws.found_date_times_are_shown.Goals as goal
 
 pub returns : goal.returns

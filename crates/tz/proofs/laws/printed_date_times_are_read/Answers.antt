@@ -1,9 +1,7 @@
 -- The fields and the offset of a date time are read as they are printed.
-use Rattle.std.proofs.Common.{FitsSigned, Some, refl, rules, arith}
-use Rattle.std.proofs.lemmas.Int.{ints}
+use Rattle.tz.proofs.Common.{arith, refl, ints, rules, Some, IsDateTime, IsLocalTimeType}
+use Rattle.std.proofs.Common.{FitsSigned}
 use Rattle.std.specs.Int.{w32}
-use Rattle.tz_rule.specs.LocalTimeType.{IsLocalTimeType}
-use Rattle.tz.specs.DateTimes.{IsDateTime}
 use Rattle.tz.proofs.ReadBack.{printed_is_read}
 use Rattle.tz.proofs.laws.printed_date_times_are_read.Goals as goal
 

@@ -1,9 +1,5 @@
 -- A date time that the clock shows is one that a search finds.
-use Rattle.std.proofs.Common.{◌∙◌, refl, sym, ap, subst, arith, ℤ, pos, negsuc, ◌+ℤ◌}
-use Rattle.std.proofs.lemmas.Int.{ints}
-use Rattle.tz_rule.specs.LocalTimeType.{LocalTimeType}
-use Rattle.tz_zone.specs.Clock.{IsClock}
-use Rattle.tz.specs.declared.datetime.found.FoundDateTimeKind.TheVariants.{Normal}
+use Rattle.tz.proofs.Common.{arith, refl, subst, ◌∙◌, ints, sym, ap, pos, ℤ, IsClock, ◌+ℤ◌, negsuc, LocalTimeType, Normal}
 use Rattle.tz.proofs.PromisedLists.{each_can_be_made}
 use Rattle.tz.proofs.laws.shown_date_times_are_found.Goals as goal
 

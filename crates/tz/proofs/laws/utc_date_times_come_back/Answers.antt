@@ -1,6 +1,5 @@
 -- Fields with a second below 60 are the civil fields of their reading.
-use Rattle.std.proofs.Common.{refl}
-use Rattle.tz_base.proofs.DateOrder.{civil_unique}
+use Rattle.tz.proofs.Common.{refl, civil_unique}
 use Rattle.tz.proofs.laws.utc_date_times_come_back.Goals as goal
 
 pub returns-clause-ok : goal.returns-clause-ok

@@ -1,5 +1,4 @@
-use Rattle.std.proofs.Common.{◌≡◌, true}
-use Rattle.tz.specs.PrintedBytes.{AreBetween}
+use Rattle.tz.proofs.Common.{◌≡◌, true, AreBetween}
 use Rattle.tz.proofs.parse.are_between.Given as goal
 
 abbrev pub invariant-loop-index : goal.invariant-loop-index

@@ -1,8 +1,6 @@
 -- Fewer than four digits are printed unless a zero stands first.
-use Rattle.std.proofs.Common.{◌≡◌, Bool, true, false, not, nat_eq, MatchBool, get_or, refl, subst, arith}
-use Rattle.std.proofs.lemmas.Bool.{eqb-true, eqb-false}
-use Rattle.std.proofs.lemmas.List.{nil_from_length}
-use Rattle.tz.specs.DateTimeText.{AreYearDigits}
+use Rattle.tz.proofs.Common.{arith, refl, ◌≡◌, subst, get_or, true, Bool, false, eqb-true, AreYearDigits, nil_from_length, MatchBool, eqb-false, nat_eq}
+use Rattle.std.proofs.Common.{not}
 use Rattle.tz.proofs.TextFronts.{no_printed_digits, no_year_without_digits, printed_digits}
 use Rattle.tz.proofs.parse.are_year_digits.Goals as goal
 

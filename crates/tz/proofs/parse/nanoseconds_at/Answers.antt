@@ -1,6 +1,5 @@
 -- The first digit, and then two at a time.
-use Rattle.std.proofs.Common.{◌≡◌, ◌+◌, ◌*◌, ◌%◌, ◌<◌, ◌++◌, ◌∷◌, ◌∙◌, drop, ap, arith}
-use Rattle.tz.specs.PrintedText.{two_digits}
+use Rattle.tz.proofs.Common.{arith, ◌≡◌, ◌∙◌, ap, ◌∷◌, ◌<◌, ◌+◌, ◌++◌, ◌*◌, ◌%◌, two_digits, drop}
 use Rattle.tz.proofs.PrintedBytes.{byte_at, nine_from_pairs}
 use Rattle.tz.proofs.parse.nanoseconds_at.Goals as goal
 

@@ -1,6 +1,5 @@
 -- `Z`, or the sign and the size.
-use Rattle.std.proofs.Common.{arith}
-use Rattle.std.proofs.lemmas.Int.{ints}
+use Rattle.tz.proofs.Common.{arith, ints}
 use Rattle.tz.proofs.PrintedBytes.{offset_ahead, offset_behind, offset_of_utc}
 use Rattle.tz.proofs.parse.offset_at_end.Goals as goal
 

@@ -1,5 +1,5 @@
 -- The bytes are its digits.
-use Rattle.std.proofs.Common.{arith}
+use Rattle.tz.proofs.Common.{arith}
 use Rattle.tz.proofs.PrintedBytes.{pair_at_position}
 use Rattle.tz.proofs.parse.pair_at.Goals as goal
 

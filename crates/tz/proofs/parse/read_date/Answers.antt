@@ -1,9 +1,6 @@
 -- Each part in turn.
-use Rattle.std.proofs.Common.{ℕ, List, inl, inr, rules, subst}
-use Rattle.std.proofs.lemmas.Result.{err_from_is_err_and}
-use Rattle.std.proofs.lemmas.Int.{to_z-of_z}
+use Rattle.tz.proofs.Common.{subst, inr, inl, to_z-of_z, ℕ, rules, List, err_from_is_err_and, IsPair}
 use Rattle.std.specs.Int.{w32}
-use Rattle.tz.specs.DateTimeText.{IsPair}
 use Rattle.tz.proofs.parse.read_date.Goals as goal
 
 pub returns-in_err-text : goal.returns-in_err-text

@@ -1,9 +1,6 @@
 -- Each part in turn.
-use Rattle.std.proofs.Common.{◌≡◌, Bool, true, false, Some, None, inl, inr, refl, [], length, sym, ap, ◌∙◌}
-use Rattle.std.proofs.lemmas.Bool.{eqb-true, eq-eqb, false≢true}
+use Rattle.tz.proofs.Common.{refl, ◌≡◌, ◌∙◌, inr, sym, inl, [], ap, length, Some, None, err_from_is_err_and, true, Bool, false, eqb-true, false≢true, nil_from_length, eq-eqb}
 use Rattle.std.specs.Bool.{then_some}
-use Rattle.std.proofs.lemmas.List.{nil_from_length}
-use Rattle.std.proofs.lemmas.Result.{err_from_is_err_and}
 use Rattle.tz.proofs.TextValues.{fields_are_utc}
 use Rattle.tz.proofs.parse.read_date_time.Goals as goal
 

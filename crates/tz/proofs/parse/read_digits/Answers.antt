@@ -1,6 +1,5 @@
 -- Each digit is one more.
-use Rattle.std.proofs.Common.{arith}
-use Rattle.std.proofs.lemmas.Int.Digits.{digits_more, digits_value_more}
+use Rattle.tz.proofs.Common.{arith, digits_more, digits_value_more}
 use Rattle.tz.proofs.parse.read_digits.Goals as goal
 
 pub loop-position-preserved : goal.loop-position-preserved

@@ -1,5 +1,4 @@
-use Rattle.std.proofs.Common.{◌≡◌, take, min}
-use Rattle.std.specs.Str.Parse.{AllDigits, digits_value}
+use Rattle.tz.proofs.Common.{◌≡◌, digits_value, take, AllDigits, min}
 use Rattle.tz.proofs.parse.read_digits.Given as goal
 
 abbrev pub invariant-loop-position : goal.invariant-loop-position

@@ -1,7 +1,5 @@
 -- Each part in turn.
-use Rattle.std.proofs.Common.{◌+◌, ◌*◌, inl, inr, refl, arith}
-use Rattle.std.proofs.lemmas.Result.{err_from_is_err_and}
-use Rattle.std.proofs.lemmas.Int.{ints}
+use Rattle.tz.proofs.Common.{arith, refl, ints, inr, inl, ◌+◌, ◌*◌, err_from_is_err_and}
 use Rattle.tz.proofs.parse.read_duration.Goals as goal
 
 pub returns-in_err-text : goal.returns-in_err-text

@@ -1,6 +1,5 @@
 -- One to nine digits, padded with zeros to nine.
-use Rattle.std.proofs.Common.{◌-◌, inl, inr, length, take, drop, arith}
-use Rattle.std.proofs.lemmas.List.{take_all, length-drop, length-take}
+use Rattle.tz.proofs.Common.{arith, inr, inl, length, ◌-◌, drop, take, length-drop, length-take, take_all}
 use Rattle.tz.proofs.TextFronts.{fraction_read, no_fraction}
 use Rattle.tz.proofs.parse.read_fraction.Goals as goal
 

@@ -1,7 +1,5 @@
 -- The digits are these alone.
-use Rattle.std.proofs.Common.{inl, inr, length, ap, arith}
-use Rattle.std.specs.Str.Parse.{digits_value}
-use Rattle.std.proofs.lemmas.List.{length-take}
+use Rattle.tz.proofs.Common.{arith, inr, inl, ap, length, digits_value, length-take}
 use Rattle.tz.proofs.TextFronts.{digits_unique}
 use Rattle.tz.proofs.parse.read_hours.Goals as goal
 

@@ -1,5 +1,5 @@
 -- The minutes are these alone.
-use Rattle.std.proofs.Common.{arith}
+use Rattle.tz.proofs.Common.{arith}
 use Rattle.tz.proofs.TextFronts.{pair_unique}
 use Rattle.tz.proofs.parse.read_minutes.Goals as goal
 

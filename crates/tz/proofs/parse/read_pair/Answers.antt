@@ -1,5 +1,5 @@
 -- Two digits are their number.
-use Rattle.std.proofs.Common.{◌/◌, ◌%◌, inl, inr, arith}
+use Rattle.tz.proofs.Common.{arith, inr, inl, ◌%◌, ◌/◌}
 use Rattle.tz.proofs.TextFronts.{bytes_of_pair, pair_of_bytes}
 use Rattle.tz.proofs.parse.read_pair.Goals as goal
 

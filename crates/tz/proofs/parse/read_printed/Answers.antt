@@ -1,9 +1,7 @@
 -- Each part stands at its position.
-use Rattle.std.proofs.Common.{◌+◌, ◌*◌, ◌≤◌, arith, rules, to_z, subst, sym}
+use Rattle.tz.proofs.Common.{arith, subst, ints, sym, to_z-of_z, rules, ◌+◌, ◌≤◌, ◌*◌, IsValid, month_length-le}
+use Rattle.std.proofs.Common.{to_z}
 use Rattle.std.specs.Int.{w32}
-use Rattle.tz_base.proofs.CivilReadings.{month_length-le}
-use Rattle.std.proofs.lemmas.Int.{ints, to_z-of_z}
-use Rattle.tz_base.specs.Fields.{IsValid}
 use Rattle.tz.proofs.PrintedBytes.{digit_byte, only_byte, printed_from_positions, year_at}
 use Rattle.tz.proofs.parse.read_printed.Goals as goal
 

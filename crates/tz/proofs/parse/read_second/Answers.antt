@@ -1,9 +1,6 @@
 -- The second is this one alone, and past the end.
-use Rattle.std.proofs.Common.{rules, subst}
-use Rattle.std.proofs.lemmas.Int.{to_z-of_z}
+use Rattle.tz.proofs.Common.{subst, to_z-of_z, rules, fields_of, IsPastTheEnd}
 use Rattle.std.specs.Int.{w32}
-use Rattle.tz_base.specs.Fields.{fields_of}
-use Rattle.tz.specs.DateTimes.{IsPastTheEnd}
 use Rattle.tz.proofs.TextFronts.{pair_unique}
 use Rattle.tz.proofs.parse.read_second.Goals as goal
 

@@ -1,6 +1,5 @@
 -- The seconds after the colon are these alone.
-use Rattle.std.proofs.Common.{inl, inr, subst, arith}
-use Rattle.tz.specs.DateTimeText.{IsPair}
+use Rattle.tz.proofs.Common.{arith, subst, inr, inl, IsPair}
 use Rattle.tz.proofs.TextFronts.{pair_unique}
 use Rattle.tz.proofs.parse.read_seconds.Goals as goal
 

@@ -1,6 +1,5 @@
 -- Each part in turn.
-use Rattle.std.proofs.Common.{inl, inr}
-use Rattle.std.proofs.lemmas.Result.{err_from_is_err_and}
+use Rattle.tz.proofs.Common.{inr, inl, err_from_is_err_and}
 use Rattle.tz.proofs.parse.read_time.Goals as goal
 
 pub returns-in_err-text : goal.returns-in_err-text

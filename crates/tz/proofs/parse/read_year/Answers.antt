@@ -1,9 +1,6 @@
 -- The digits after a minus, or those that come first, are the year if it fits.
-use Rattle.std.proofs.Common.{◌∙◌, ap, sym, subst, arith}
-use Rattle.std.proofs.lemmas.Int.{ints}
+use Rattle.tz.proofs.Common.{arith, subst, ◌∙◌, ints, sym, ap, digits_value, FitsSigned}
 use Rattle.std.specs.Int.{w32}
-use Rattle.std.specs.Prelude.{FitsSigned}
-use Rattle.std.specs.Str.Parse.{digits_value}
 use Rattle.tz.proofs.TextFronts.{digits_unique, no_year_after_minus, no_year_without_minus, unfit}
 use Rattle.tz.proofs.parse.read_year.Goals as goal
 

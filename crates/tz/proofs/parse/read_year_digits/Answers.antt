@@ -1,11 +1,6 @@
 -- The digits are these alone.
-use Rattle.std.proofs.Common.{◌∙◌, sym, ◌^◌, inl, inr, pos, ap, subst, arith}
-use Rattle.std.proofs.lemmas.Bool.{cases_lt}
-use Rattle.std.proofs.lemmas.Int.{fits_signed_from_abs}
+use Rattle.tz.proofs.Common.{arith, subst, ◌∙◌, inr, sym, inl, ap, pos, ◌^◌, digits_value, cases_lt, FitsSigned, AreYearDigits, fits_signed_from_abs}
 use Rattle.std.specs.Int.{w64}
-use Rattle.std.specs.Prelude.{FitsSigned}
-use Rattle.std.specs.Str.Parse.{digits_value}
-use Rattle.tz.specs.DateTimeText.{AreYearDigits}
 use Rattle.tz.proofs.TextFronts.{digits_unique, unfit}
 use Rattle.tz.proofs.parse.read_year_digits.Goals as goal
 

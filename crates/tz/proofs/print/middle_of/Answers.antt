@@ -1,5 +1,5 @@
 -- The pairs and what stands between them.
-use Rattle.std.proofs.Common.{◌<◌, arith, sym, ◌∙◌, subst, IsAscii}
+use Rattle.tz.proofs.Common.{arith, subst, ◌∙◌, sym, ◌<◌, IsAscii}
 use Rattle.tz.proofs.PrintedDigits.{middle_text-ascii, middle_text-bytes, two_digits-below}
 use Rattle.tz.proofs.print.middle_of.Goals as goal
 

@@ -1,5 +1,5 @@
 -- The bytes at the number's position are its digits.
-use Rattle.std.proofs.Common.{◌≡◌, ◌+◌, ◌-◌, ◌*◌, arith, sym, ◌∙◌}
+use Rattle.tz.proofs.Common.{arith, ◌≡◌, ◌∙◌, sym, ◌+◌, ◌*◌, ◌-◌}
 use Rattle.tz.proofs.DigitPairs.{pair_is}
 use Rattle.tz.proofs.PrintedDigits.{two_digits-below}
 use Rattle.tz.proofs.text_buffer.pair_of.Goals as goal

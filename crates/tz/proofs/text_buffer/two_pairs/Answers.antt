@@ -1,5 +1,5 @@
 -- The two pairs are the four digits.
-use Rattle.std.proofs.Common.{◌/◌, ◌%◌, arith, sym, ◌∙◌}
+use Rattle.tz.proofs.Common.{arith, ◌∙◌, sym, ◌%◌, ◌/◌}
 use Rattle.tz.proofs.PrintedDigits.{decimal-four, two_digits-ascii, two_digits-below}
 use Rattle.tz.proofs.text_buffer.two_pairs.Goals as goal
 

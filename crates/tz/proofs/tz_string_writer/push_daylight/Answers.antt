@@ -1,8 +1,5 @@
 -- The parts in turn, without an offset that is the default one.
-use Rattle.std.proofs.Common.{◌≡◌, ◌++◌, append_assoc, append-nil, arith, refl, rules, sym}
-use Rattle.std.proofs.lemmas.Int.{ints, to_z-of_z}
-use mir.Syntax.{w32}
-use Rattle.tz.specs.TzStrings.{daylight_offset_text}
+use Rattle.tz.proofs.Common.{arith, refl, ◌≡◌, ints, sym, to_z-of_z, rules, ◌++◌, w32, append_assoc, append-nil, daylight_offset_text}
 use Rattle.tz.proofs.TzStringTexts.{daylight_offset_text-default, daylight_offset_text-other}
 use Rattle.tz.proofs.tz_string_writer.push_daylight.Goals as goal
 use Rattle.tz.proofs.tz_string_writer.push_daylight.Goals.{then-ut_offset, else-ut_offset}

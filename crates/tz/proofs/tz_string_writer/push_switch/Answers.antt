@@ -1,7 +1,5 @@
 -- A comma, the day, and the time after a slash, unless it is the default one.
-use Rattle.std.proofs.Common.{append_assoc, append-nil, arith, refl}
-use Rattle.std.proofs.lemmas.Int.{ints, to_z-of_z}
-use mir.Syntax.{w32}
+use Rattle.tz.proofs.Common.{arith, refl, ints, to_z-of_z, w32, append_assoc, append-nil}
 use Rattle.tz.proofs.TzStringTexts.{time_of_day_text-default, time_of_day_text-other}
 use Rattle.tz.proofs.tz_string_writer.push_switch.Goals as goal
 

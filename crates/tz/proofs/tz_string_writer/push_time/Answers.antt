@@ -1,7 +1,5 @@
 -- By the sign of the time.
-use Rattle.std.proofs.Common.{append_assoc, arith, refl}
-use Rattle.std.proofs.lemmas.Int.{ints, to_z-of_z}
-use mir.Syntax.{w32}
+use Rattle.tz.proofs.Common.{arith, refl, ints, to_z-of_z, w32, append_assoc}
 use Rattle.tz.proofs.TzStringTexts.{signed_time_text-negative, signed_time_text-plain}
 use Rattle.tz.proofs.tz_string_writer.push_time.Goals as goal
 use Rattle.tz.proofs.tz_string_writer.push_time.Goals.{then-seconds-lt0, else-seconds-lt0}

@@ -1,6 +1,5 @@
 -- No entry has another code.
-use Rattle.std.proofs.Common.{rules}
-use Rattle.tz_c.specs.ErrorTexts.{texts}
+use Rattle.tz_c.proofs.Common.{rules, texts}
 use Rattle.tz_c.proofs.CodeTexts.{none_in}
 use Rattle.tz_c.proofs.codes.text_of.Goals as goal
 

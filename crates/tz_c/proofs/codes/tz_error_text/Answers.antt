@@ -1,7 +1,5 @@
 -- The text of an error's code is that of the error.
-use Rattle.std.proofs.Common.{◌≡◌, sym, ap, ◌∙◌, subst, List, ℕ, Some}
-use Rattle.tz_c.specs.ErrorTexts.{error_text, text_of_code}
-use Rattle.tz_c.specs.Texts.{IsTextAnswer}
+use Rattle.tz_c.proofs.Common.{subst, ◌≡◌, ℕ, sym, Some, List, ap, ◌∙◌, error_text, text_of_code, IsTextAnswer}
 use Rattle.tz_c.proofs.CodeTexts.{error_text_of, short_text}
 use Rattle.tz_c.proofs.codes.tz_error_text.Goals as goal
 

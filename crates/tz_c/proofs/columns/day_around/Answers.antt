@@ -1,8 +1,5 @@
 -- The reading is less than a day after the start.
-use Rattle.std.proofs.Common.{rules, arith, pos, ◌≤ℤ◌, ◌-ℤ◌, ◌<ℤ◌}
-use Rattle.std.proofs.lemmas.Int.{ints}
-use mir.Syntax.{w64}
-use mir.Val.{SFits}
+use Rattle.tz_c.proofs.Common.{rules, SFits, arith, w64, pos, ints, ◌-ℤ◌, ◌<ℤ◌, ◌≤ℤ◌}
 use Rattle.tz_c.proofs.DaySeconds.{difference}
 use Rattle.tz_c.proofs.columns.day_around.Goals as goal
 

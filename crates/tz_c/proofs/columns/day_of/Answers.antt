@@ -1,6 +1,5 @@
 -- The time of the day is less than a day.
-use Rattle.std.proofs.Common.{arith, pos, ◌≤ℤ◌, ◌<ℤ◌}
-use Rattle.std.proofs.lemmas.Int.{ints}
+use Rattle.tz_c.proofs.Common.{arith, pos, ints, ◌<ℤ◌, ◌≤ℤ◌}
 use Rattle.tz_c.proofs.DaySeconds.{start_before}
 use Rattle.tz_c.proofs.columns.day_of.Goals as goal
 

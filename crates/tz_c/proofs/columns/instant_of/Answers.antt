@@ -1,5 +1,5 @@
 -- The faults are those of the zone that C passes.
-use Rattle.std.proofs.Common.{inr}
+use Rattle.tz_c.proofs.Common.{inr}
 use Rattle.tz_c.proofs.columns.instant_of.Goals as goal
 
 pub returns-in-Err-clause-answer : goal.returns-in-Err-clause-answer

@@ -1,8 +1,5 @@
 -- The offset is that of the type, at the instant that was passed.
-use Rattle.std.proofs.Common.{inl, inr, refl, rules}
-use Rattle.std.proofs.lemmas.Int.{to_z-of_z}
-use mir.Syntax.{w32, w64}
-use mir.Val.{SFits}
+use Rattle.tz_c.proofs.Common.{refl, inl, inr, rules, SFits, to_z-of_z, w64, w32}
 use Rattle.tz_c.proofs.columns.offset_in.Goals as goal
 
 pub returns-in-Ok-clause-answer : goal.returns-in-Ok-clause-answer

@@ -1,11 +1,5 @@
 -- Each turn answers one index more.
-use Rattle.std.proofs.Common.{◌≡◌, ◌≤◌, inl, refl, rules, arith, length, slice_index_or, pos}
-use Rattle.std.proofs.lemmas.Int.{to_z-of_z}
-use Rattle.std.proofs.lemmas.Option.{get_or_from_slice_get}
-use mir.Syntax.{w64}
-use mir.Val.{SFits}
-use Rattle.tz_c.specs.ZoneOfData.{zone_of_data}
-use Rattle.tz_c.specs.Columns.{IsDateTimeAt}
+use Rattle.tz_c.proofs.Common.{refl, inl, rules, SFits, to_z-of_z, ◌≡◌, arith, w64, pos, zone_of_data, ◌≤◌, length, slice_index_or, get_or_from_slice_get, IsDateTimeAt}
 use Rattle.tz_c.proofs.AnswersInTurn.{one_more, all_of}
 use Rattle.tz_c.proofs.columns.tz_column_date_times.Goals as goal
 

@@ -1,9 +1,5 @@
 -- Each turn answers one index more.
-use Rattle.std.proofs.Common.{◌≤◌, inl, refl, subst, arith, length, Option}
-use Rattle.std.proofs.lemmas.Option.{get_or_from_slice_get}
-use Rattle.tz.specs.declared.datetime.disambiguation.Disambiguation.{Disambiguation}
-use Rattle.tz_c.specs.ZoneOfData.{zone_of_data}
-use Rattle.tz_c.specs.Columns.{AreInstantsBy, IsInstantAt}
+use Rattle.tz_c.proofs.Common.{refl, inl, subst, arith, zone_of_data, ◌≤◌, length, Option, get_or_from_slice_get, Disambiguation, IsInstantAt, AreInstantsBy}
 use Rattle.tz_c.proofs.AnswersInTurn.{one_more, all_of}
 use Rattle.tz_c.proofs.columns.tz_column_instants.Goals as goal
 

@@ -1,6 +1,5 @@
 -- The indexes before the index are answered.
-use Rattle.tz_c.specs.ZoneOfData.{zone_of_data}
-use Rattle.tz_c.specs.Columns.{IsInstantAt}
+use Rattle.tz_c.proofs.Common.{zone_of_data, IsInstantAt}
 use Rattle.tz_c.proofs.AnswersInTurn.{AreAnswersUpTo}
 use Rattle.tz_c.proofs.columns.tz_column_instants.Given as goal
 

@@ -1,7 +1,5 @@
 -- The segment is one of the zone's clock, and the indexes before the index are answered.
-use Rattle.tz_zone.specs.Changes.{IsTrueSegment, segment_of}
-use Rattle.tz_c.specs.ZoneOfData.{zone_of_data}
-use Rattle.tz_c.specs.Columns.{IsOffsetAt}
+use Rattle.tz_c.proofs.Common.{zone_of_data, IsOffsetAt, IsTrueSegment, segment_of}
 use Rattle.tz_c.proofs.AnswersInTurn.{AreAnswersUpTo}
 use Rattle.tz_c.proofs.columns.tz_column_offsets.Given as goal
 

@@ -1,14 +1,8 @@
 -- The type is the clock's at the instant that was passed, and the faults are the lookup's, or what the type shows is no
 -- reading.
-use Rattle.std.proofs.Common.{◌≡◌, ◌<◌, ◌≤◌, inl, inr, refl, rules, subst, ◌+ℤ◌}
-use Rattle.std.proofs.lemmas.Int.{to_z-of_z}
-use Rattle.tz_base.specs.Fields.{IsCivil, IsReading}
+use Rattle.tz_c.proofs.Common.{refl, inl, inr, rules, subst, SFits, to_z-of_z, ◌≡◌, w64, ◌<◌, ◌≤◌, Zone, w32, IsClock, IsLookupFault, IsReading, ◌+ℤ◌, IsCivil}
 use Rattle.tz_base.specs.declared.error.TzError.TheVariants as faults
 use Rattle.tz_base.specs.declared.error.DateTimeError.TheVariants as field_faults
-use mir.Syntax.{w32, w64}
-use mir.Val.{SFits}
-use Rattle.tz_zone.specs.Clock.{IsClock, IsLookupFault}
-use Rattle.tz_zone.specs.Table.{Zone}
 use Rattle.tz_c.proofs.date_times.tz_date_time_from_timespec.Goals as goal
 
 pub returns-then-nanoseconds-ge-NANOSECONDS_PER_SECOND-clause-answer :

@@ -1,5 +1,5 @@
 -- What is written is what is read.
-use Rattle.std.proofs.Common.{inl, refl, sym, subst}
+use Rattle.tz_c.proofs.Common.{refl, inl, subst, sym}
 use Rattle.tz.specs.DateTimeText.{IsDateTimeText}
 use Rattle.tz_c.proofs.date_times.tz_date_time_read.Goals as goal
 

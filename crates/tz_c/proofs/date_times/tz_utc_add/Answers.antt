@@ -1,10 +1,7 @@
 -- The duration has these seconds and nanoseconds, so the total is moved by them.
-use Rattle.std.proofs.Common.{◌≡◌, ℕ, ◌*◌, ◌+◌, ◌<◌, ◌≤◌, inl, inr, refl, subst, arith, rules, pos, ◌+ℤ◌}
-use Rattle.std.specs.Duration.{as_nanos}
-use Rattle.std.proofs.lemmas.Bool.{false≢true}
+use Rattle.tz_c.proofs.Common.{refl, inl, inr, rules, subst, ◌≡◌, arith, pos, ◌<◌, ℕ, ◌≤◌, false≢true, ◌+ℤ◌, ◌+◌, IsUtcTotal, as_nanos, utc_total, ◌*◌, IsUtcAt}
 use Rattle.tz_base.specs.declared.error.TzError.TheVariants as faults
 use Rattle.tz_base.specs.declared.error.DateTimeError.TheVariants as field_faults
-use Rattle.tz.specs.DateTimes.{IsUtcAt, IsUtcTotal, utc_total}
 use Rattle.tz_c.proofs.date_times.tz_utc_add.Goals as goal
 
 pub returns-then-nanoseconds-ge-NANOSECONDS_PER_SECOND-clause-answer :

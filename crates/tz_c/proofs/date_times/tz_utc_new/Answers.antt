@@ -1,8 +1,5 @@
 -- The fault is that of the fields.
-use Rattle.std.proofs.Common.{inr, rules}
-use Rattle.std.proofs.lemmas.Int.{to_z-of_z}
-use mir.Syntax.{w32}
-use mir.Val.{SFits}
+use Rattle.tz_c.proofs.Common.{inr, rules, SFits, to_z-of_z, w32}
 use Rattle.tz_c.proofs.date_times.tz_utc_new.Goals as goal
 
 pub returns-in-Err-clause-answer : goal.returns-in-Err-clause-answer

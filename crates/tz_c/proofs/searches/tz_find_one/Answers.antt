@@ -1,8 +1,5 @@
 -- The faults are those of the zone that C passes.
-use Rattle.std.proofs.Common.{inr, subst, Option}
-use Rattle.tz.specs.declared.datetime.disambiguation.Disambiguation.{Disambiguation}
-use Rattle.tz_c.specs.DateTimes.{IsChoiceAnswer}
-use Rattle.tz_c.specs.ZoneOfData.{zone_of_data}
+use Rattle.tz_c.proofs.Common.{inr, subst, zone_of_data, Option, Disambiguation, IsChoiceAnswer}
 use Rattle.tz_c.proofs.searches.tz_find_one.Goals as goal
 
 pub returns-in-Err-clause-answer : goal.returns-in-Err-clause-answer

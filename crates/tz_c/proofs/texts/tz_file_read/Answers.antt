@@ -1,10 +1,5 @@
 -- The slices have the tables of the zone that is read.
-use Rattle.std.proofs.Common.{◌≡◌, ◌∙◌, inl, refl, sym, subst, rules}
-use Rattle.std.proofs.lemmas.Int.{to_z-of_z}
-use mir.Syntax.{w32}
-use mir.Val.{SFits}
-use Rattle.tz_zone.specs.Offsets.{AreEndOffsets}
-use Rattle.tz_zone.specs.Table.{Zone}
+use Rattle.tz_c.proofs.Common.{refl, inl, rules, subst, SFits, to_z-of_z, ◌≡◌, Zone, sym, w32, ◌∙◌, AreEndOffsets}
 use Rattle.tz_zone.specs.TzFile.{IsTzFile}
 use Rattle.tz_zone.specs.ZoneRef.{zone_of}
 use Rattle.tz_c.specs.Tables.{zone_written}

@@ -1,5 +1,5 @@
 -- A text that is no UTF-8 is no name.
-use Rattle.std.proofs.Common.{inr, refl}
+use Rattle.tz_c.proofs.Common.{refl, inr}
 use Rattle.tz_c.proofs.NameBytes.{name_is_text}
 use Rattle.tz_c.proofs.texts.tz_name_check.Goals as goal
 

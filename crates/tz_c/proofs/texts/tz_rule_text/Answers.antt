@@ -1,7 +1,5 @@
 -- There is a rule, and no TZ string denotes it.
-use Rattle.std.proofs.Common.{inl, refl, sym, subst, Option}
-use Rattle.tz_rule.specs.declared.timezone.transition_rule.TransitionRule.{TransitionRule}
-use Rattle.tz_c.specs.Texts.{IsRuleTextAnswer}
+use Rattle.tz_c.proofs.Common.{refl, inl, subst, sym, Option, TransitionRule, IsRuleTextAnswer}
 use Rattle.tz_c.proofs.texts.tz_rule_text.Goals as goal
 
 pub returns-in-None-clause-answer : goal.returns-in-None-clause-answer

@@ -1,8 +1,5 @@
 -- The first index at which an equal type stands.
-use Rattle.std.proofs.Common.{◌≡◌, ◌∙◌, ◌<◌, ap, refl, sym, subst, rules, arith, inl, inr, length, Some}
-use Rattle.std.specs.Prelude.{slice_get}
-use Rattle.std.proofs.lemmas.Bool.{cases_lt, false≢true}
-use Rattle.std.proofs.lemmas.Option.{slice_get_read, slice_get_within}
+use Rattle.tz_c.proofs.Common.{refl, inl, inr, rules, subst, ◌≡◌, arith, ◌<◌, length, sym, Some, ap, slice_get, ◌∙◌, false≢true, slice_get_within, cases_lt, slice_get_read}
 use Rattle.tz_rule.specs.Same.{Decides-same_type}
 use Rattle.tz_c.proofs.zones.index_in.Goals as goal
 

@@ -1,6 +1,5 @@
 -- No index before has the type.
-use Rattle.std.proofs.Common.{◌≢◌, ℕ, ◌<◌, Some}
-use Rattle.std.specs.Prelude.{slice_get}
+use Rattle.tz_c.proofs.Common.{◌<◌, ℕ, Some, slice_get, ◌≢◌}
 use Rattle.tz_c.proofs.zones.index_in.Given as goal
 
 abbrev pub invariant-loop-index : goal.invariant-loop-index

@@ -1,10 +1,5 @@
 -- The end offsets are those of the parts.
-use Rattle.std.proofs.Common.{inl, refl, rules, subst}
-use Rattle.std.proofs.lemmas.Int.{to_z-of_z}
-use mir.Syntax.{w32}
-use mir.Val.{SFits}
-use Rattle.tz_zone.specs.Offsets.{AreEndOffsets}
-use Rattle.tz_zone.specs.Table.{Zone}
+use Rattle.tz_c.proofs.Common.{refl, inl, rules, subst, SFits, to_z-of_z, Zone, w32, AreEndOffsets}
 use Rattle.tz_c.proofs.zones.tz_zone_check.Goals as goal
 
 pub returns-in-Ok-clause-answer : goal.returns-in-Ok-clause-answer

@@ -1,8 +1,5 @@
 -- The leap seconds are those of the zone, and the leap time is that of the instant.
-use Rattle.std.proofs.Common.{inl, refl, rules}
-use Rattle.std.proofs.lemmas.Int.{to_z-of_z}
-use mir.Syntax.{w64}
-use mir.Val.{SFits}
+use Rattle.tz_c.proofs.Common.{refl, inl, rules, SFits, to_z-of_z, w64}
 use Rattle.tz_c.proofs.zones.tz_zone_leap_time.Goals as goal
 
 pub leap-requires : goal.leap-requires

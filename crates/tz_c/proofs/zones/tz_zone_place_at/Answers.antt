@@ -1,10 +1,5 @@
 -- The type of the clock stands among those of the list and of the rule.
-use Rattle.std.proofs.Common.{inl, inr, refl, subst}
-use Rattle.std.proofs.lemmas.Int.{to_z-of_z}
-use mir.Syntax.{w64}
-use Rattle.tz_zone.specs.Clock.{IsClock, IsLookupFault}
-use Rattle.tz_zone.specs.Table.{Zone}
-use Rattle.tz_c.specs.ZoneOfData.{zone_of_data}
+use Rattle.tz_c.proofs.Common.{refl, inl, inr, subst, to_z-of_z, w64, zone_of_data, Zone, IsClock, IsLookupFault}
 use Rattle.tz_c.proofs.ClockIndexes.{clock_type}
 use Rattle.tz_c.proofs.zones.tz_zone_place_at.Goals as goal
 

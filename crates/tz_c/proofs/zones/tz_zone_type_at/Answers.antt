@@ -1,9 +1,5 @@
 -- The instant is the one that was passed.
-use Rattle.std.proofs.Common.{inl, inr, refl, subst}
-use Rattle.std.proofs.lemmas.Int.{to_z-of_z}
-use mir.Syntax.{w64}
-use Rattle.tz_zone.specs.Clock.{IsClock, IsLookupFault}
-use Rattle.tz_zone.specs.Table.{Zone}
+use Rattle.tz_c.proofs.Common.{refl, inl, inr, subst, to_z-of_z, w64, Zone, IsClock, IsLookupFault}
 use Rattle.tz_c.proofs.zones.tz_zone_type_at.Goals as goal
 
 pub returns-in-Ok-clause-answer : goal.returns-in-Ok-clause-answer

@@ -1,5 +1,5 @@
 -- The types that a zone's clock shows have valid names.
-use Rattle.tz_zone.specs.ZoneRef.{zone_of}
+use Rattle.tz_query.proofs.Common.{zone_of}
 use Rattle.tz_query.proofs.laws.answers_are_cut_into_lines.Goals as goal
 
 pub returns : goal.returns

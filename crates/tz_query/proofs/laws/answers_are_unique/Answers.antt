@@ -2,8 +2,9 @@
 use Rattle.tz_query.proofs.UniqueAnswers.{line_answer_unique, answers_unique}
 use Rattle.tz_query.proofs.laws.answers_are_unique.Goals as goal
 
-pub returns-clause-line : goal.returns-clause-line
-returns-clause-line c = line_answer_unique
-
-pub returns-clause-all : goal.returns-clause-all
-returns-clause-all c = answers_unique
+pub returns : goal.returns
+returns c =
+    record {
+      line = line_answer_unique;
+      all = answers_unique;
+    }

@@ -1,5 +1,5 @@
 -- Two years are more than twice ten days.
-use Rattle.tz_rule.specs.Alternate.{start_of, end_of}
+use Rattle.tz_rule.proofs.Common.{end_of, start_of}
 use Rattle.tz_rule.proofs.DaylightSpans.{over, to_come}
 use Rattle.tz_rule.proofs.YearlyInstants.{IsYearly-start_of, IsYearly-end_of}
 use Rattle.tz_rule.proofs.laws.far_starts_and_ends_are_over_or_to_come.Goals as goal

@@ -1,5 +1,5 @@
 -- A rule in range has its starts and ends near their years.
-use Rattle.tz_rule.specs.Alternate.{start_of, end_of}
+use Rattle.tz_rule.proofs.Common.{end_of, start_of}
 use Rattle.tz_rule.proofs.YearlyInstants.{IsYearly-start_of, IsYearly-end_of, near_year}
 use Rattle.tz_rule.proofs.laws.starts_and_ends_are_near.Goals as goal
 

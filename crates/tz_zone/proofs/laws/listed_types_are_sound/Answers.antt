@@ -1,6 +1,5 @@
 -- Each type has a position below the number of types.
-use Rattle.std.proofs.Common.{arith}
-use Rattle.std.proofs.lemmas.Option.{slice_get_within}
+use Rattle.tz_zone.proofs.Common.{arith, slice_get_within}
 use Rattle.tz_zone.proofs.laws.listed_types_are_sound.Goals as goal
 
 pub returns : goal.returns

@@ -1,8 +1,6 @@
 -- The types so far are sound.
-use Rattle.std.proofs.Common.{◌≡◌, ℕ, ◌<◌, Some}
-use Rattle.std.specs.Prelude.{slice_get, FitsSigned}
+use Rattle.tz_zone.proofs.Common.{◌≡◌, ℕ, ◌<◌, Some, LocalTimeType, slice_get, FitsSigned, IsLocalTimeType}
 use Rattle.std.specs.Int.{w32}
-use Rattle.tz_rule.specs.LocalTimeType.{LocalTimeType, IsLocalTimeType}
 use Rattle.tz_zone.proofs.laws.listed_types_are_sound.Given as goal
 
 abbrev pub invariant-loop-local_time_type : goal.invariant-loop-local_time_type

@@ -1,8 +1,6 @@
 -- A rule has the types of its parts.
-use Rattle.std.proofs.Common.{sym, subst}
-use Rattle.std.specs.Prelude.{FitsSigned}
+use Rattle.tz_zone.proofs.Common.{sym, subst, LocalTimeType, FitsSigned, IsLocalTimeType}
 use Rattle.std.specs.Int.{w32}
-use Rattle.tz_rule.specs.LocalTimeType.{LocalTimeType, IsLocalTimeType}
 use Rattle.tz_zone.proofs.ShownTypes.{HoldsOfRule, of_rule_type}
 use Rattle.tz_zone.proofs.laws.rule_types_are_sound.Goals as goal
 

@@ -1,12 +1,6 @@
 -- The clock shows types of the list and of the rule alone.
-use Rattle.std.proofs.Common.{◌≡◌, ◌∙◌, sym, subst, ℕ, ℤ, List, Some}
-use Rattle.std.specs.Prelude.{slice_get, FitsSigned}
+use Rattle.tz_zone.proofs.Common.{◌≡◌, ℕ, sym, ℤ, ◌∙◌, subst, List, Some, LocalTimeType, slice_get, same_Some, TransitionRule, FitsSigned, IsRuleType, IsLocalTimeType, zone_of}
 use Rattle.std.specs.Int.{w32}
-use Rattle.std.proofs.lemmas.Option.{same_Some}
-use Rattle.tz_rule.specs.LocalTimeType.{LocalTimeType, IsLocalTimeType}
-use Rattle.tz_rule.specs.Rule.{IsRuleType}
-use Rattle.tz_rule.specs.declared.timezone.transition_rule.TransitionRule.{TransitionRule}
-use Rattle.tz_zone.specs.ZoneRef.{zone_of}
 use Rattle.tz_zone.proofs.ShownTypes.{of_shown_type}
 use Rattle.tz_zone.proofs.laws.shown_types_are_sound.Goals as goal
 

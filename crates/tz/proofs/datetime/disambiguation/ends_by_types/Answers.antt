@@ -1,7 +1,5 @@
 -- The search begins with no entries, and takes any.
-use Rattle.std.proofs.Common.{◌∙◌, [], refl, arith}
-use Rattle.std.proofs.lemmas.Int.{to_z-of_z}
-use mir.Syntax.{w64}
+use Rattle.tz.proofs.Common.{arith, refl, ◌∙◌, [], to_z-of_z, w64}
 use Rattle.tz.proofs.Ends.{takes_all}
 use Rattle.tz.proofs.datetime.disambiguation.ends_by_types.Goals as goal
 

@@ -1,15 +1,6 @@
 -- The fields mean what their entries are.
-use Rattle.std.proofs.Common.{◌∙◌, ℕ, inr, arith, rules, sym, subst}
-use Rattle.std.proofs.lemmas.Int.{ints, to_z-of_z}
-use Rattle.std.proofs.lemmas.Result.{err_from_is_err_and}
-use mir.Syntax.{w32, w64}
-use mir.Val.{SFits}
-use Rattle.tz_zone.specs.Clock.{IsClock}
-use Rattle.tz_zone.specs.ZoneOfData.{zone_of_data}
-use Rattle.tz.specs.LocalMeanings.{HasMeaning}
-use Rattle.tz.specs.declared.datetime.disambiguation.Meaning.TheVariants.{More}
-use Rattle.tz.proofs.Ends.{each_made, means_gap, means_more, means_nothing, means_once, means_twice, outside_refused}
-use Rattle.tz.proofs.Ends.{sides_inside}
+use Rattle.tz.proofs.Common.{arith, subst, ◌∙◌, ints, inr, sym, to_z-of_z, ℕ, rules, w64, IsClock, w32, err_from_is_err_and, zone_of_data, SFits, HasMeaning, More}
+use Rattle.tz.proofs.Ends.{each_made, means_gap, means_more, means_nothing, means_once, means_twice, outside_refused, sides_inside}
 use Rattle.tz.proofs.PromisedLists.{never_out_of_range}
 use Rattle.tz.proofs.datetime.disambiguation.meaning_in.Goals as goal
 
@@ -33,23 +24,22 @@ returns-in_err-ends-clause-outcome c =
       err = fault;
     })
 
-pub returns-in-Nothing-clause-ok : goal.returns-in-Nothing-clause-ok
-returns-in-Nothing-clause-ok c =
+pub returns-in-Nothing : goal.returns-in-Nothing
+returns-in-Nothing c =
     let z = zone_of_data c.args.zone.now in
     let f = c.args.fields.now in
     let valid = c.in_ok-check.ensures.ok in
     let has = rw (to_z-of_z w64 c.reading-reading.result (search rules)
     ∙ c.reading-reading.ensures.value) at c.in_ok-ends.ensures.ok in
-    means_nothing z f valid (has.0, has.1, has.2) (c.in-Nothing.ensures has.0 has.3)
-
-pub returns-in-Nothing-clause-outcome : goal.returns-in-Nothing-clause-outcome
-returns-in-Nothing-clause-outcome c =
-    let z = zone_of_data c.args.zone.now in
-    let f = c.args.fields.now in
-    let valid = c.in_ok-check.ensures.ok in
-    let has = rw (to_z-of_z w64 c.reading-reading.result (search rules)
-    ∙ c.reading-reading.ensures.value) at c.in_ok-ends.ensures.ok in
-    record { valid = valid; made = each_made z f valid (has.0, has.1, has.2); promised = λ promised. tt; err = tt }
+    record {
+      ok = means_nothing z f valid (has.0, has.1, has.2) (c.in-Nothing.ensures has.0 has.3);
+      outcome = record {
+        valid = valid;
+        made = each_made z f valid (has.0, has.1, has.2);
+        promised = λ promised. tt;
+        err = tt;
+      };
+    }
 
 pub of_fields-date_time-requires-clause-instant : goal.of_fields-date_time-requires-clause-instant
 of_fields-date_time-requires-clause-instant c =
@@ -63,8 +53,8 @@ of_fields-date_time-requires-clause-instant c =
     (c.in-Once.ensures has.0 has.3) in
     rw (to_z-of_z w64 u (search rules)) (omega (arith, ints, means.0.1))
 
-pub returns-in-Once-clause-ok : goal.returns-in-Once-clause-ok
-returns-in-Once-clause-ok c =
+pub returns-in-Once : goal.returns-in-Once
+returns-in-Once c =
     let z = zone_of_data c.args.zone.now in
     let f = c.args.fields.now in
     let valid = c.in_ok-check.ensures.ok in
@@ -73,16 +63,15 @@ returns-in-Once-clause-ok c =
     let u = c.in-Once.unix_time in
     let means = means_once z f valid (has.0, has.1, has.2) u c.in-Once.local_time_type.now
     (c.in-Once.ensures has.0 has.3) in
-    rw (c.of_fields-date_time.ensures, to_z-of_z w64 u (search rules)) means.1
-
-pub returns-in-Once-clause-outcome : goal.returns-in-Once-clause-outcome
-returns-in-Once-clause-outcome c =
-    let z = zone_of_data c.args.zone.now in
-    let f = c.args.fields.now in
-    let valid = c.in_ok-check.ensures.ok in
-    let has = rw (to_z-of_z w64 c.reading-reading.result (search rules)
-    ∙ c.reading-reading.ensures.value) at c.in_ok-ends.ensures.ok in
-    record { valid = valid; made = each_made z f valid (has.0, has.1, has.2); promised = λ promised. tt; err = tt }
+    record {
+      ok = rw (c.of_fields-date_time.ensures, to_z-of_z w64 u (search rules)) means.1;
+      outcome = record {
+        valid = valid;
+        made = each_made z f valid (has.0, has.1, has.2);
+        promised = λ promised. tt;
+        err = tt;
+      };
+    }
 
 pub of_fields-first-requires-clause-instant : goal.of_fields-first-requires-clause-instant
 of_fields-first-requires-clause-instant c =
@@ -110,8 +99,8 @@ of_fields-last-requires-clause-instant c =
     (c.in-Twice.ensures has.0 has.3) in
     rw (to_z-of_z w64 v (search rules)) (omega (arith, ints, means.1.1))
 
-pub returns-in-Twice-clause-ok : goal.returns-in-Twice-clause-ok
-returns-in-Twice-clause-ok c =
+pub returns-in-Twice : goal.returns-in-Twice
+returns-in-Twice c =
     let z = zone_of_data c.args.zone.now in
     let f = c.args.fields.now in
     let valid = c.in_ok-check.ensures.ok in
@@ -121,22 +110,21 @@ returns-in-Twice-clause-ok c =
     let v = c.in-Twice.later in
     let means = means_twice z f valid (has.0, has.1, has.2) u c.in-Twice.before.now v c.in-Twice.after.now
     (c.in-Twice.ensures has.0 has.3) in
-    rw (
-      c.of_fields-first.ensures,
-      c.of_fields-last.ensures,
-      to_z-of_z w64 u (search rules),
-      to_z-of_z w64 v
-          (search rules),
-    ) means.2
-
-pub returns-in-Twice-clause-outcome : goal.returns-in-Twice-clause-outcome
-returns-in-Twice-clause-outcome c =
-    let z = zone_of_data c.args.zone.now in
-    let f = c.args.fields.now in
-    let valid = c.in_ok-check.ensures.ok in
-    let has = rw (to_z-of_z w64 c.reading-reading.result (search rules)
-    ∙ c.reading-reading.ensures.value) at c.in_ok-ends.ensures.ok in
-    record { valid = valid; made = each_made z f valid (has.0, has.1, has.2); promised = λ promised. tt; err = tt }
+    record {
+      ok = rw (
+        c.of_fields-first.ensures,
+        c.of_fields-last.ensures,
+        to_z-of_z w64 u (search rules),
+        to_z-of_z w64 v
+            (search rules),
+      ) means.2;
+      outcome = record {
+        valid = valid;
+        made = each_made z f valid (has.0, has.1, has.2);
+        promised = λ promised. tt;
+        err = tt;
+      };
+    }
 
 pub returns-in_err-before_transition-in-Skipped-clause-outcome :
     goal.returns-in_err-before_transition-in-Skipped-clause-outcome
@@ -170,8 +158,8 @@ returns-in_err-after_transition-in-Skipped-clause-outcome c =
     let inside = sides_inside z f valid (has.0, has.1, has.2) u a b one in
     absurd ((rw u_is at c.in_err-after_transition-in-Skipped.ensures.err).1 inside.1)
 
-pub returns-in_ok-after_transition-in-Skipped-clause-ok : goal.returns-in_ok-after_transition-in-Skipped-clause-ok
-returns-in_ok-after_transition-in-Skipped-clause-ok c =
+pub returns-in_ok-after_transition-in-Skipped : goal.returns-in_ok-after_transition-in-Skipped
+returns-in_ok-after_transition-in-Skipped c =
     let z = zone_of_data c.args.zone.now in
     let f = c.args.fields.now in
     let valid = c.in_ok-check.ensures.ok in
@@ -184,35 +172,32 @@ returns-in_ok-after_transition-in-Skipped-clause-ok c =
     let one = c.in-Skipped.ensures has.0 has.3 in
     let first = c.in_ok-before_transition-in-Skipped in
     let second = c.in_ok-after_transition-in-Skipped in
-    means_gap z f valid (has.0, has.1, has.2) u a b one first.before_transition second.after_transition
-    (rw u_is at first.ensures.ok)
-    (rw u_is at second.ensures.ok)
+    record {
+      ok = means_gap z f valid (has.0, has.1, has.2) u a b one first.before_transition second.after_transition
+          (rw u_is at first.ensures.ok)
+          (rw u_is at second.ensures.ok);
+      outcome = record {
+        valid = valid;
+        made = each_made z f valid (has.0, has.1, has.2);
+        promised = λ promised. tt;
+        err = tt;
+      };
+    }
 
-pub returns-in_ok-after_transition-in-Skipped-clause-outcome :
-    goal.returns-in_ok-after_transition-in-Skipped-clause-outcome
-returns-in_ok-after_transition-in-Skipped-clause-outcome c =
-    let z = zone_of_data c.args.zone.now in
-    let f = c.args.fields.now in
-    let valid = c.in_ok-check.ensures.ok in
-    let has = rw (to_z-of_z w64 c.reading-reading.result (search rules)
-    ∙ c.reading-reading.ensures.value) at c.in_ok-ends.ensures.ok in
-    record { valid = valid; made = each_made z f valid (has.0, has.1, has.2); promised = λ promised. tt; err = tt }
-
-pub returns-in-More-clause-ok : goal.returns-in-More-clause-ok
-returns-in-More-clause-ok c =
+pub returns-in-More : goal.returns-in-More
+returns-in-More c =
     let z = zone_of_data c.args.zone.now in
     let f = c.args.fields.now in
     let valid = c.in_ok-check.ensures.ok in
     let has = rw (to_z-of_z w64 c.reading-reading.result (search rules)
     ∙ c.reading-reading.ensures.value) at c.in_ok-ends.ensures.ok in
     let more = c.in-More.ensures has.0 has.3 in
-    subst (λ (n : ℕ). HasMeaning z f (More n)) (sym more.0) (means_more z f valid (has.0, has.1, has.2) more.1)
-
-pub returns-in-More-clause-outcome : goal.returns-in-More-clause-outcome
-returns-in-More-clause-outcome c =
-    let z = zone_of_data c.args.zone.now in
-    let f = c.args.fields.now in
-    let valid = c.in_ok-check.ensures.ok in
-    let has = rw (to_z-of_z w64 c.reading-reading.result (search rules)
-    ∙ c.reading-reading.ensures.value) at c.in_ok-ends.ensures.ok in
-    record { valid = valid; made = each_made z f valid (has.0, has.1, has.2); promised = λ promised. tt; err = tt }
+    record {
+      ok = subst (λ (n : ℕ). HasMeaning z f (More n)) (sym more.0) (means_more z f valid (has.0, has.1, has.2) more.1);
+      outcome = record {
+        valid = valid;
+        made = each_made z f valid (has.0, has.1, has.2);
+        promised = λ promised. tt;
+        err = tt;
+      };
+    }

@@ -1,17 +1,9 @@
 -- The jump alone, one shown alone, or both.
-use Rattle.std.proofs.Common.{◌≡◌, [], ◌∷◌, ap, arith, rules, refl, subst, ◌≤ℤ◌, ◌<ℤ◌, Some}
-use Rattle.std.proofs.lemmas.Int.{ints, to_z-of_z}
-use Rattle.std.proofs.lemmas.List.Elements.{All-cons, All-nil}
-use Rattle.std.proofs.lemmas.Result.{err_from_is_err_and}
-use mir.Syntax.{w64}
-use Rattle.tz.specs.Ends.{entry_of}
-use Rattle.tz.specs.Entries.{Entry, Shown, Jump, IsEntryInside}
+use Rattle.tz.proofs.Common.{arith, refl, ◌≡◌, subst, ints, [], ap, to_z-of_z, ◌∷◌, rules, w64, Some, ◌<ℤ◌, ◌≤ℤ◌, err_from_is_err_and, Shown, Jump, Entry, All-nil, IsEntryInside, All-cons, entry_of}
 use Rattle.tz.proofs.ChangeEntries.{both, first_alone, from_since, jump_alone, second_alone, skipped}
 use Rattle.tz.proofs.Ends.{one_shown_meant}
 use Rattle.tz.proofs.datetime.disambiguation.meant_around.Goals as goal
-use Rattle.tz.proofs.datetime.disambiguation.meant_around.Goals.{in-Compatible, in-Earlier, in-Later, in-Reject}
-use Rattle.tz.proofs.datetime.disambiguation.meant_around.Goals.{in-Compatible-disambiguation, in-Earlier-disambiguation}
-use Rattle.tz.proofs.datetime.disambiguation.meant_around.Goals.{in-Later-disambiguation, in-Reject-disambiguation}
+use Rattle.tz.proofs.datetime.disambiguation.meant_around.Goals.{in-Compatible, in-Earlier, in-Later, in-Reject, in-Compatible-disambiguation, in-Earlier-disambiguation, in-Later-disambiguation, in-Reject-disambiguation}
 
 pub returns-in_err-jump-clause-err : goal.returns-in_err-jump-clause-err
 returns-in_err-jump-clause-err c =

@@ -1,9 +1,5 @@
 -- A search that is promised is never out of range.
-use Rattle.std.proofs.Common.{inr, rules}
-use Rattle.std.proofs.lemmas.Result.{IfErr-weaker, on_ok_weaker}
-use mir.Syntax.{w32}
-use mir.Val.{SFits}
-use Rattle.tz_zone.specs.ZoneOfData.{zone_of_data}
+use Rattle.tz.proofs.Common.{inr, rules, w32, zone_of_data, SFits, IfErr-weaker, on_ok_weaker}
 use Rattle.tz.proofs.PromisedLists.{never_out_of_range}
 use Rattle.tz.proofs.datetime.find.find_in.Goals as goal
 

@@ -1,8 +1,5 @@
 -- The type shows the reading after the span, or before it and after that of the type before.
-use Rattle.std.proofs.Common.{[], inl, refl, ap, arith, rules}
-use Rattle.std.proofs.lemmas.Int.{ints, to_z-of_z}
-use mir.Syntax.{w64}
-use Rattle.tz.specs.Entries.{lent_type}
+use Rattle.tz.proofs.Common.{arith, refl, ints, inl, [], ap, to_z-of_z, rules, w64, lent_type}
 use Rattle.tz.proofs.EntryWalks.{none_beside, none_first, none_late}
 use Rattle.tz.proofs.datetime.gaps_and_folds.give.Goals as goal
 use Rattle.tz.proofs.datetime.gaps_and_folds.give.Goals.{else-since-unix_time-via-then-since-unix_time+else-unix_time-last, else-since-unix_time-via-else-since-unix_time}

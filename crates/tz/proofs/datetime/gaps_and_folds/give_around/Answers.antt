@@ -1,11 +1,6 @@
 -- The first span ends with the change, and the second begins there.
-use Rattle.std.proofs.Common.{[], ◌∷◌, ◌++◌, refl, subst, arith, rules, ◌≤ℤ◌, ◌<ℤ◌}
-use Rattle.std.proofs.lemmas.Int.{ints, to_z-of_z}
-use Rattle.std.proofs.lemmas.Result.{IfErr-weaker, err_from_is_err_and, on_ok_weaker}
-use mir.Syntax.{w64}
-use Rattle.tz.specs.Entries.{Shown, Jump}
-use Rattle.tz.proofs.ChangeEntries.{both, first_alone, first_shown, from_since, jump_alone, second_alone, second_shown}
-use Rattle.tz.proofs.ChangeEntries.{skipped}
+use Rattle.tz.proofs.Common.{arith, refl, subst, ints, [], to_z-of_z, ◌∷◌, rules, w64, ◌++◌, ◌<ℤ◌, ◌≤ℤ◌, err_from_is_err_and, Shown, Jump, IfErr-weaker, on_ok_weaker}
+use Rattle.tz.proofs.ChangeEntries.{both, first_alone, first_shown, from_since, jump_alone, second_alone, second_shown, skipped}
 use Rattle.tz.proofs.datetime.gaps_and_folds.give_around.Goals as goal
 
 pub returns-then-passes_over : goal.returns-then-passes_over

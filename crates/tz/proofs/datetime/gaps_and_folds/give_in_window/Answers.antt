@@ -1,11 +1,5 @@
 -- The clock has one type in the window, or two with a jump between them, or a walk finds what it has.
-use Rattle.std.proofs.Common.{◌≡◌, [], ◌∷◌, refl, subst, arith, rules, ◌-ℤ◌}
-use Rattle.std.proofs.lemmas.Int.{ints, to_z-of_z}
-use Rattle.std.proofs.lemmas.Result.{IfErr-weaker, on_ok_weaker}
-use mir.Syntax.{w64}
-use Rattle.tz_zone.specs.Clock.{IsClock}
-use Rattle.tz_zone.specs.ZoneOfData.{zone_of_data}
-use Rattle.tz.specs.Entries.{HasTwoTypes, Shown}
+use Rattle.tz.proofs.Common.{arith, refl, ◌≡◌, subst, ints, [], to_z-of_z, ◌∷◌, rules, w64, IsClock, ◌-ℤ◌, zone_of_data, Shown, IfErr-weaker, on_ok_weaker, HasTwoTypes}
 use Rattle.tz.proofs.EntryWalks.{entries_once, few_entries}
 use Rattle.tz.proofs.datetime.gaps_and_folds.give_in_window.Goals as goal
 

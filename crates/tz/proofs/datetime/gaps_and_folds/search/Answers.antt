@@ -1,13 +1,5 @@
 -- The date times of all entries are all that is found.
-use Rattle.std.proofs.Common.{◌∙◌, refl, sym, subst, arith, rules}
-use Rattle.std.proofs.lemmas.Grind.{common_steps}
-use Rattle.std.proofs.lemmas.Int.{to_z-of_z}
-use Rattle.std.proofs.lemmas.Result.{IfErr-weaker, on_ok_weaker}
-use mir.Syntax.{w64}
-use Rattle.tz_base.specs.Fields.{reading}
-use Rattle.tz_zone.specs.Clock.{IsClock}
-use Rattle.tz_zone.specs.ZoneOfData.{zone_of_data}
-use Rattle.tz.specs.EntryDateTimes.{dated_goes_on, dated_more, dated_none}
+use Rattle.tz.proofs.Common.{arith, refl, subst, ◌∙◌, sym, to_z-of_z, rules, w64, IsClock, reading, zone_of_data, IfErr-weaker, on_ok_weaker, common_steps, dated_goes_on, dated_more, dated_none}
 use Rattle.tz.proofs.DatedEntries.{as_long, fault_from_refused, found_from_entries, made_from_entries}
 use Rattle.tz.proofs.ReadingWindows.{most_in_window}
 use Rattle.tz.proofs.datetime.gaps_and_folds.search.Goals as goal

@@ -1,16 +1,8 @@
 -- The search goes on from the types of the window, with the looks that they took.
-use Rattle.std.proofs.Common.{◌≡◌, ◌∙◌, ℕ, zero, suc, ◌+◌, ◌*◌, ◌^◌, ◌<◌, ◌≤◌, Option, Some, None, length, inl, inr}
-use Rattle.std.proofs.Common.{refl, arith}
-use Rattle.std.specs.Prelude.{MatchOption}
-use Rattle.std.proofs.lemmas.Bool.{cases_lt}
-use Rattle.std.proofs.lemmas.Int.{to_z-of_z}
-use Rattle.std.proofs.lemmas.List.{nil_from_length}
-use Rattle.std.proofs.lemmas.Result.{on_ok_weaker}
-use mir.Syntax.{w64}
+use Rattle.tz.proofs.Common.{arith, refl, ◌≡◌, ◌∙◌, inr, inl, to_z-of_z, ℕ, ◌<◌, length, ◌+◌, w64, Some, ◌≤◌, suc, zero, ◌*◌, ◌^◌, None, Option, cases_lt, on_ok_weaker, nil_from_length, MatchOption, first_looks, looks_after}
 use Rattle.tz_zone.specs.WindowTypes.{IfMore}
 use Rattle.tz_zone.specs.declared.clock.window_types.WindowTypes.{WindowTypes}
 use Rattle.tz_zone.specs.declared.clock.window_types.WindowTypes.TheVariants.{One, Two, More}
-use Rattle.tz.specs.Windows.{first_looks, looks_after}
 use Rattle.tz.proofs.WalkLooks.{on_ok_both}
 use Rattle.tz.proofs.datetime.gaps_and_folds.search_window.Goals as goal
 

@@ -1,16 +1,6 @@
 -- From one span to the next, up to the end of the window.
-use Rattle.std.proofs.Common.{◌≡◌, ◌+◌, ◌≤◌, ◌++◌, ◌∙◌, [], None, inl, inr, refl, arith, rules, pos, ◌+ℤ◌, ◌-ℤ◌, ◌≤ℤ◌}
-use Rattle.std.proofs.Common.{◌<ℤ◌}
-use Rattle.std.proofs.lemmas.Int.{ints, to_z-of_z}
-use Rattle.std.proofs.lemmas.Result.{err_from_is_err_and}
-use mir.Syntax.{w64}
-use mir.Val.{SFits}
-use Rattle.tz_zone.specs.Clock.{IsClock}
-use Rattle.tz_zone.specs.ZoneOfData.{zone_of_data}
-use Rattle.tz_zone.proofs.LeapTimes.{IsInstant-from_bounds, instant_bounds}
-use Rattle.tz.specs.Entries.{lent_type}
-use Rattle.tz.proofs.EntryWalks.{few_entries, refused_there, room_less, span_holds, walked_on, walked_to_end}
-use Rattle.tz.proofs.EntryWalks.{walked_to_first}
+use Rattle.tz.proofs.Common.{arith, refl, ◌≡◌, ◌∙◌, ints, inr, inl, [], to_z-of_z, rules, ◌+◌, pos, w64, IsClock, ◌≤◌, ◌++◌, ◌-ℤ◌, ◌+ℤ◌, ◌<ℤ◌, ◌≤ℤ◌, None, err_from_is_err_and, zone_of_data, SFits, lent_type, IsInstant-from_bounds, instant_bounds}
+use Rattle.tz.proofs.EntryWalks.{few_entries, refused_there, room_less, span_holds, walked_on, walked_to_end, walked_to_first}
 use Rattle.tz.proofs.WalkLooks.{looks_at_first, looks_in_all, looks_on}
 use Rattle.tz.proofs.datetime.gaps_and_folds.walk.Goals as goal
 

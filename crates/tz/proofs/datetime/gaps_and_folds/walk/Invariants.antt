@@ -1,11 +1,5 @@
 -- The walk has come to an instant, with a look for each transition that it passed.
-use Rattle.std.proofs.Common.{◌≡◌, ◌+◌, ◌-◌, pos, ◌+ℤ◌, ◌-ℤ◌, ◌≤ℤ◌, List, length}
-use mir.Syntax.{w64}
-use mir.Val.{SFits}
-use Rattle.tz_zone.specs.Clock.{IsClock}
-use Rattle.tz_zone.specs.ClockSpans.{IsStage}
-use Rattle.tz_zone.specs.ZoneOfData.{zone_of_data}
-use Rattle.tz.specs.Entries.{Entry, lent_type}
+use Rattle.tz.proofs.Common.{◌≡◌, List, length, ◌+◌, pos, w64, IsClock, ◌-ℤ◌, ◌+ℤ◌, ◌-◌, ◌≤ℤ◌, zone_of_data, SFits, Entry, lent_type, IsStage}
 use Rattle.tz.proofs.EntryWalks.{IsWalkedTo, room}
 use Rattle.tz.proofs.WalkLooks.{AreLooks}
 use Rattle.tz.proofs.datetime.gaps_and_folds.walk.Given as goal

@@ -1,6 +1,5 @@
 -- The window is as wide as the offsets lie apart.
-use Rattle.std.proofs.Common.{arith}
-use Rattle.std.proofs.lemmas.Int.{ints}
+use Rattle.tz.proofs.Common.{arith, ints}
 use Rattle.tz.proofs.datetime.gaps_and_folds.window.Goals as goal
 
 pub returns-clause-width : goal.returns-clause-width

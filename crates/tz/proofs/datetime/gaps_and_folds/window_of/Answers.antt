@@ -1,8 +1,5 @@
 -- The offsets lie around the reading as the window does.
-use Rattle.std.proofs.Common.{rules, ◌-ℤ◌}
-use Rattle.std.proofs.lemmas.Int.{to_z-of_z}
-use mir.Syntax.{w32, w64}
-use Rattle.tz_zone.specs.ZoneOfData.{zone_of_data}
+use Rattle.tz.proofs.Common.{to_z-of_z, rules, w64, ◌-ℤ◌, w32, zone_of_data}
 use Rattle.tz.proofs.ReadingWindows.{clock_between, window_from_offsets}
 use Rattle.tz.proofs.datetime.gaps_and_folds.window_of.Goals as goal
 

@@ -1,7 +1,5 @@
 -- The total that is carried is the one earlier by the duration.
-use Rattle.std.proofs.Common.{arith}
-use Rattle.std.proofs.lemmas.Int.{ints}
-use Rattle.std.specs.Duration.{as_nanos}
+use Rattle.tz.proofs.Common.{arith, ints, as_nanos}
 use Rattle.tz.proofs.TimespecTotals.{timespec_earlier, range_earlier, below_a_second}
 use Rattle.tz.proofs.datetime.utc_date_time.time_before.Goals as goal
 

@@ -1,9 +1,5 @@
 -- The seconds of a total in range fit 64 bits.
-use Rattle.std.proofs.Common.{arith}
-use Rattle.std.proofs.lemmas.Int.{ints, to_z-of_z}
-use mir.Syntax.{w64, w128}
-use mir.Val.{SFits}
-use Rattle.tz_zone.proofs.LeapTimes.{IsInstant-from_bounds}
+use Rattle.tz.proofs.Common.{arith, ints, to_z-of_z, w64, SFits, IsInstant-from_bounds, w128}
 use Rattle.tz.proofs.TimespecTotals.{timespec_exists}
 use Rattle.tz.proofs.datetime.utc_date_time.utc_timespec.Goals as goal
 

@@ -1,10 +1,5 @@
 -- Where all entries are inside the years, each can be made.
-use Rattle.std.proofs.Common.{◌∙◌, rules}
-use Rattle.std.proofs.lemmas.Int.{to_z-of_z}
-use Rattle.std.proofs.lemmas.Result.{err_from_is_err_and}
-use mir.Syntax.{w64}
-use Rattle.tz_zone.specs.Clock.{IsClock}
-use Rattle.tz_zone.specs.ZoneOfData.{zone_of_data}
+use Rattle.tz.proofs.Common.{◌∙◌, to_z-of_z, rules, w64, IsClock, err_from_is_err_and, zone_of_data}
 use Rattle.tz.proofs.Ends.{each_made, outside_refused}
 use Rattle.tz.proofs.datetime.zone_data_searches.check_by_search.Goals as goal
 

@@ -1,9 +1,5 @@
 -- Far from the ends of the years each entry can be made.
-use Rattle.std.proofs.Common.{inl, arith, rules, pos, ◌-ℤ◌, ◌<ℤ◌}
-use Rattle.std.proofs.lemmas.Int.{ints, to_z-of_z}
-use mir.Syntax.{w32}
-use mir.Val.{SFits}
-use Rattle.tz_zone.specs.ZoneOfData.{zone_of_data}
+use Rattle.tz.proofs.Common.{arith, ints, inl, to_z-of_z, rules, pos, ◌-ℤ◌, ◌<ℤ◌, w32, zone_of_data, SFits}
 use Rattle.tz.proofs.ReadingWindows.{clock_between}
 use Rattle.tz.proofs.PromisedLists.{each_can_be_made}
 use Rattle.tz.proofs.datetime.zone_data_searches.check_entries.Goals as goal

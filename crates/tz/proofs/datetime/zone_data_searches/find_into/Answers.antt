@@ -1,7 +1,5 @@
 -- The slots hold what is found from a number on.
-use Rattle.std.proofs.Common.{◌∙◌, arith}
-use Rattle.std.proofs.lemmas.Grind.{common_steps}
-use Rattle.tz.specs.Plain.{found_data}
+use Rattle.tz.proofs.Common.{arith, ◌∙◌, common_steps, found_data}
 use Rattle.tz.proofs.PlacedSlots.{held}
 use Rattle.tz.proofs.datetime.zone_data_searches.find_into.Goals as goal
 

@@ -1,8 +1,5 @@
 -- The zone's clock shows the date time, or its lookup is refused, or the year is out of range.
-use Rattle.std.proofs.Common.{inl, inr, rules}
-use Rattle.std.proofs.lemmas.Int.{to_z-of_z}
-use Rattle.std.proofs.lemmas.Result.{err_from_is_err_and, IfErr-weaker, IfOk-weaker}
-use mir.Syntax.{w64}
+use Rattle.tz.proofs.Common.{inr, inl, to_z-of_z, rules, w64, err_from_is_err_and, IfErr-weaker, IfOk-weaker}
 use Rattle.tz.proofs.datetime.zone_data_searches.from_timespec.Goals as goal
 
 pub returns-in_err-local_time_type-clause-err : goal.returns-in_err-local_time_type-clause-err

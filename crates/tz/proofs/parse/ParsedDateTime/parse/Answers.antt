@@ -1,9 +1,6 @@
 -- What is missing stands within the text.
-use Rattle.std.proofs.Common.{Some, arith, rules, subst, sym}
-use Rattle.std.proofs.lemmas.Int.{to_z-of_z}
+use Rattle.tz.proofs.Common.{arith, subst, sym, to_z-of_z, rules, Some, IsDateTimeText, valid_reading}
 use Rattle.std.specs.Int.{w32}
-use Rattle.tz_base.proofs.LastSeconds.{valid_reading}
-use Rattle.tz.specs.DateTimeText.{IsDateTimeText}
 use Rattle.tz.proofs.ReadBack.{printed_is_read}
 use Rattle.tz.proofs.UniqueTexts.{missing_within}
 use Rattle.tz.proofs.parse.ParsedDateTime.parse.Goals as goal

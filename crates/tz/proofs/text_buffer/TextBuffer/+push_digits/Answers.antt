@@ -1,6 +1,5 @@
 -- One digit, two, or two after the others.
-use Rattle.std.proofs.Common.{append_assoc, arith, refl}
-use Rattle.std.proofs.lemmas.Fmt.{decimal_digit}
+use Rattle.tz.proofs.Common.{arith, refl, append_assoc, decimal_digit}
 use Rattle.tz.proofs.PrintedDigits.{decimal-two_digits, decimal-pairs}
 use Rattle.tz.proofs.text_buffer.TextBuffer.+push_digits.Goals as goal
 

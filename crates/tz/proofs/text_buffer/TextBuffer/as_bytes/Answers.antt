@@ -1,5 +1,5 @@
 -- The bytes are those of a text.
-use Rattle.std.proofs.lemmas.Str.{IsUtf8-had}
+use Rattle.tz.proofs.Common.{IsUtf8-had}
 use Rattle.tz.proofs.text_buffer.TextBuffer.as_bytes.Goals as goal
 
 pub returns-clause-utf8 : goal.returns-clause-utf8

@@ -1,8 +1,5 @@
 -- A text with an ASCII byte after it is a text.
-use Rattle.std.proofs.Common.{◌<◌, [], ◌∷◌, length, rules}
-use Rattle.std.proofs.lemmas.List.{take_more_set}
-use Rattle.std.proofs.lemmas.Str.{IsUtf8-had, IsUtf8-append, IsUtf8-from_ascii}
-use Rattle.std.proofs.lemmas.Str.Ascii.{IsAscii-nil, IsAscii-cons}
+use Rattle.tz.proofs.Common.{[], ◌∷◌, ◌<◌, rules, length, IsUtf8-had, IsAscii-cons, IsUtf8-append, IsAscii-nil, IsUtf8-from_ascii, take_more_set}
 use Rattle.tz.proofs.text_buffer.TextBuffer.push.Goals as goal
 
 pub invariant_of-self : goal.invariant_of-self

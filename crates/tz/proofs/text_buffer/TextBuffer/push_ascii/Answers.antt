@@ -1,7 +1,5 @@
 -- A text with ASCII bytes after it is a text.
-use Rattle.std.proofs.Common.{◌≡◌, ◌+◌, ap, length, arith, rules}
-use Rattle.std.proofs.lemmas.Slice.{take-put_mid}
-use Rattle.std.proofs.lemmas.Str.{IsUtf8-had, IsUtf8-append, IsUtf8-from_ascii}
+use Rattle.tz.proofs.Common.{arith, ◌≡◌, ap, rules, length, ◌+◌, IsUtf8-had, IsUtf8-append, IsUtf8-from_ascii, take-put_mid}
 use Rattle.tz.proofs.text_buffer.TextBuffer.push_ascii.Goals as goal
 
 pub invariant_of-self : goal.invariant_of-self

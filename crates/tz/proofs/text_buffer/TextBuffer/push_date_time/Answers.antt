@@ -1,7 +1,5 @@
 -- The parts of the date time in turn.
-use Rattle.std.proofs.Common.{append_assoc, rules}
-use Rattle.std.proofs.lemmas.Int.{to_z-of_z}
-use mir.Syntax.{w32}
+use Rattle.tz.proofs.Common.{to_z-of_z, rules, w32, append_assoc}
 use Rattle.tz.proofs.PrintedDigits.{printed_parts}
 use Rattle.tz.proofs.text_buffer.TextBuffer.push_date_time.Goals as goal
 

@@ -1,8 +1,5 @@
 -- The parts of the duration in turn.
-use Rattle.std.proofs.Common.{◌≡◌, ◌/◌, ◌%◌, ◌<◌, ◌++◌, [], ◌∷◌, slice_index_or, append_assoc, refl, arith, sym, ◌∙◌, subst, IsAscii}
-use Rattle.std.proofs.lemmas.Str.{IsAscii-append}
-use Rattle.std.proofs.lemmas.Str.Ascii.{IsAscii-cons}
-use Rattle.tz.specs.PrintedText.{duration_text, two_digits}
+use Rattle.tz.proofs.Common.{arith, refl, ◌≡◌, subst, ◌∙◌, sym, [], ◌∷◌, ◌<◌, ◌++◌, ◌%◌, append_assoc, ◌/◌, two_digits, duration_text, IsAscii, IsAscii-cons, IsAscii-append, slice_index_or}
 use Rattle.tz.proofs.PrintedDigits.{two_digits-ascii, two_digits-below, duration_text-short}
 use Rattle.tz.proofs.text_buffer.TextBuffer.push_duration.Goals as goal
 

@@ -1,6 +1,5 @@
 -- One digit and four pairs.
-use Rattle.std.proofs.Common.{◌≡◌, ◌+◌, ◌/◌, ◌%◌, [], ◌∷◌, slice_index_or, refl, arith, sym, ◌∙◌, subst, IsAscii}
-use Rattle.tz.specs.PrintedText.{nine_digits}
+use Rattle.tz.proofs.Common.{arith, refl, ◌≡◌, subst, ◌∙◌, sym, [], ◌∷◌, ◌+◌, ◌%◌, ◌/◌, nine_digits, IsAscii, slice_index_or}
 use Rattle.tz.proofs.PrintedDigits.{nine_digits-ascii, nine_digits-pairs, two_digits-below}
 use Rattle.tz.proofs.text_buffer.TextBuffer.push_nine_digits.Goals as goal
 

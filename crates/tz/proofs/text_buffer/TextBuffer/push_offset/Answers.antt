@@ -1,8 +1,5 @@
 -- By the sign of the offset.
-use Rattle.std.proofs.Common.{◌≡◌, append_assoc, arith, refl, pos}
-use Rattle.std.proofs.lemmas.Int.{ints, to_z-of_z}
-use mir.Syntax.{w32}
-use Rattle.tz.specs.PrintedText.{offset_text}
+use Rattle.tz.proofs.Common.{arith, refl, ◌≡◌, ints, to_z-of_z, pos, w32, append_assoc, offset_text}
 use Rattle.tz.proofs.PrintedDigits.{offset_text-negative, offset_text-positive}
 use Rattle.tz.proofs.text_buffer.TextBuffer.push_offset.Goals as goal
 

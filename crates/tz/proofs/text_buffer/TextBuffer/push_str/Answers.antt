@@ -1,7 +1,5 @@
 -- A text after a text is a text.
-use Rattle.std.proofs.Common.{◌≡◌, ◌+◌, ◌∙◌, ap, length, arith, rules}
-use Rattle.std.proofs.lemmas.Slice.{take-put_mid}
-use Rattle.std.proofs.lemmas.Str.{IsUtf8-had, IsUtf8-append}
+use Rattle.tz.proofs.Common.{arith, ◌≡◌, ◌∙◌, ap, rules, length, ◌+◌, IsUtf8-had, IsUtf8-append, take-put_mid}
 use Rattle.tz.proofs.text_buffer.TextBuffer.push_str.Goals as goal
 
 pub invariant_of-self : goal.invariant_of-self

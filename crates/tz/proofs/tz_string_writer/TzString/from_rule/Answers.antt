@@ -1,6 +1,5 @@
 -- The text is read back, and a rule that a text denotes has one.
-use Rattle.std.proofs.Common.{◌≡◌, rules}
-use Rattle.tz.specs.TzStrings.{tz_text}
+use Rattle.tz.proofs.Common.{◌≡◌, rules, tz_text}
 use Rattle.tz.proofs.TzStringRules.{tz_text_read, writable_if_read, ordinary_if_read}
 use Rattle.tz.proofs.tz_string_writer.TzString.from_rule.Goals as goal
 

@@ -1,11 +1,5 @@
 -- Each line's answer stands after those before it, and in the end no line is left.
-use Rattle.std.proofs.Common.{◌≡◌, ◌++◌, ◌<◌, [], length, sym, ap, ◌∙◌, subst, arith, rules, append_assoc, append-nil}
-use Rattle.std.proofs.lemmas.Int.{ints}
-use Rattle.std.proofs.lemmas.List.{nil_from_length}
-use Rattle.tz_zone.specs.ZoneRef.{zone_of}
-use Rattle.tz_query.specs.Lines.{ended}
-use Rattle.tz_query.specs.Answers.{AreAnswers}
-use Rattle.tz_query.specs.Outputs.{written}
+use Rattle.tz_query.proofs.Common.{sym, subst, arith, ◌≡◌, [], ap, ◌∙◌, ◌++◌, length, rules, ◌<◌, append_assoc, zone_of, ended, ints, append-nil, AreAnswers, written, nil_from_length}
 use Rattle.tz_query.proofs.AnswerLines.{AreAnswers-nil, AreAnswers-cons, rest_is_shorter, some_left}
 use Rattle.tz_query.proofs.query.answers.answer.Goals as goal
 

@@ -1,8 +1,5 @@
 -- What answers the rest, after what was written, answers all.
-use Rattle.std.proofs.Common.{ℕ, List, ◌++◌, length}
-use Rattle.tz_zone.specs.ZoneRef.{zone_of}
-use Rattle.tz_query.specs.Answers.{AreAnswers}
-use Rattle.tz_query.specs.Outputs.{IsSound, written}
+use Rattle.tz_query.proofs.Common.{◌++◌, length, ℕ, List, zone_of, AreAnswers, written, IsSound}
 use Rattle.tz_query.proofs.query.answers.answer.Given as goal
 
 abbrev pub invariant-loop-rest : goal.invariant-loop-rest

@@ -1,5 +1,5 @@
 -- A refusal has its own name.
-use Rattle.std.proofs.Common.{refl}
+use Rattle.tz_query.proofs.Common.{refl}
 use Rattle.tz_query.proofs.query.answers.fault_name.Goals as goal
 
 pub returns-in-NoAvailableLocalTimeType-clause-text :

@@ -1,11 +1,5 @@
 -- Midnight is a reading of the day less what is over of the day.
-use Rattle.std.proofs.Common.{◌≡◌, ◌<◌, ℕ, ◌+◌, ◌*◌, ℤ, pos, negsuc, ◌+ℤ◌, ◌*ℤ◌, refl, ap, sym, subst, ◌∙◌, lit<, arith, rules}
-use Rattle.std.proofs.lemmas.Int.{ints, int_rem_euclid_is, to_z-of_z}
-use Rattle.std.specs.Int.{int_rem_euclid}
-use mir.Syntax.{w64}
-use Rattle.tz_base.specs.Fields.{day_of, reading}
-use Rattle.tz_base.specs.declared.fields.Fields.{Fields}
-use Rattle.tz.specs.DateTimes.{IsUtc}
+use Rattle.tz_query.proofs.Common.{sym, subst, refl, arith, ◌≡◌, ap, ◌∙◌, rules, ℕ, to_z-of_z, w64, ◌+◌, ◌<◌, ℤ, Fields, pos, ints, negsuc, ◌*◌, reading, ◌+ℤ◌, IsUtc, day_of, int_rem_euclid, int_rem_euclid_is, lit<, ◌*ℤ◌}
 use Rattle.tz_query.proofs.query.answers.first_day_begins.Goals as goal
 use Rattle.tz_query.proofs.query.answers.first_day_begins.Goals.{then-first-eq60, else-first-eq60}
 

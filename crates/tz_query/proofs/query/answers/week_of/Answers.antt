@@ -1,14 +1,5 @@
 -- The day's date is that of the week.
-use Rattle.std.proofs.Common.{◌≡◌, ℤ, refl, subst, arith, rules}
-use Rattle.std.specs.Prelude.{Some, Result, Ok, Err, IfOk, OnOk}
-use Rattle.std.specs.Result.{result_ok}
-use Rattle.std.proofs.lemmas.Int.{ints, to_z-of_z}
-use mir.Syntax.{w32}
-use mir.Val.{SFits}
-use Rattle.tz_base.specs.Days.{IsDateOf}
-use Rattle.tz_base.specs.Fields.{IsCivil, IsReading}
-use Rattle.tz_base.specs.declared.fields.Fields.{Fields}
-use Rattle.tz_query.specs.MeetingDates.{day_after, midnight}
+use Rattle.tz_query.proofs.Common.{subst, refl, arith, ◌≡◌, rules, to_z-of_z, ℤ, Fields, ints, w32, SFits, IsCivil, Err, IfOk, Result, Some, IsDateOf, IsReading, Ok, midnight, result_ok, day_after, OnOk}
 use Rattle.tz_query.proofs.MeetingAnswers.{date_of_day}
 use Rattle.tz_query.proofs.query.answers.week_of.Goals as goal
 
@@ -21,18 +12,15 @@ week day x (Ok y) d value civil reads is =
     (date_of_day day d (subst (λ z. IsCivil z 0 d) is (subst (IsCivil x 0) same civil)), subst IsReading is reads)
 week day x (Err e) d value civil reads is = absurd cc
 
-pub returns-clause-some : goal.returns-clause-some
-returns-clause-some c =
+pub returns : goal.returns
+returns c =
     let is = week (day_after c.args.first.now c.args.weeks) _ c.from_timespec.result c.in_ok-day.day
     c.in_ok-day.ensures.value c.from_timespec.ensures.ok c.from_timespec.ensures.instant
     (omega (arith, ints, c.requires.day, c.requires.small, c.from.ensures)) in
     let fits : SFits w32 c.year.result = search rules in
-    rw (to_z-of_z w32 c.year.result fits, c.year.ensures, c.month.ensures, c.month_day.ensures)
-    (record { date = is.0; time = refl })
-
-pub returns-clause-inside : goal.returns-clause-inside
-returns-clause-inside c =
-    let is = week (day_after c.args.first.now c.args.weeks) _ c.from_timespec.result c.in_ok-day.day
-    c.in_ok-day.ensures.value c.from_timespec.ensures.ok c.from_timespec.ensures.instant
-    (omega (arith, ints, c.requires.day, c.requires.small, c.from.ensures)) in
-    is.1
+    record {
+      some = rw (to_z-of_z w32 c.year.result fits, c.year.ensures, c.month.ensures, c.month_day.ensures)
+          (record { date = is.0; time = refl });
+      inside = is.1;
+      none = search rules;
+    }

@@ -1,8 +1,7 @@
 -- What is written are the bytes, or a front of them.
-use Rattle.std.proofs.Common.{◌≡◌, ◌++◌, [], eqb-true, length, take, refl, sym, ap, ◌∙◌, subst, append-nil, append_assoc, take-append-drop}
-use Rattle.std.specs.Io.KnownBytes.{Appends}
+use Rattle.tz_query.proofs.Common.{sym, subst, refl, ◌≡◌, [], ap, ◌∙◌, ◌++◌, length, append_assoc, take, append-nil, take_rest, nil_from_length, Appends, eqb-true}
+use Rattle.std.proofs.Common.{take-append-drop}
 use Rattle.std.proofs.KnownBytes.{Appends-nil, Appends-trans}
-use Rattle.std.proofs.lemmas.List.{take_rest, nil_from_length}
 use Rattle.tz_query.proofs.query.output.write_front.Goals as goal
 
 pub loop-rest-init : goal.loop-rest-init

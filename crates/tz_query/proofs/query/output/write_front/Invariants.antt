@@ -1,5 +1,4 @@
-use Rattle.std.proofs.Common.{◌≡◌, ℕ, List, ◌++◌, length}
-use Rattle.std.specs.Io.KnownBytes.{Appends}
+use Rattle.tz_query.proofs.Common.{◌≡◌, ◌++◌, length, ℕ, List, Appends}
 use Rattle.tz_query.proofs.query.output.write_front.Given as goal
 
 -- what is not left is written

@@ -1,5 +1,5 @@
 -- A value that goes on after a number is none.
-use Rattle.std.proofs.Common.{arith}
+use Rattle.tz_query.proofs.Common.{arith}
 use Rattle.tz_query.proofs.NumberFronts.{no_number_before_more}
 use Rattle.tz_query.proofs.query.program.read_offset.Goals as goal
 

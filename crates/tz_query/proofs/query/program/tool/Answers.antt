@@ -1,10 +1,7 @@
 -- A run that succeeds wrote all answers over the zone of the arguments, which are a front of them. A run with a zone
 -- has no status 2.
-use Rattle.std.proofs.Common.{◌≡◌, ◌<◌, ◌⊎◌, inl, inr, sym, subst, ℕ, List, [], append-nil, Option, arith}
-use Rattle.tz_zone.specs.Settings.{Read}
-use Rattle.tz_zone.specs.Table.{Zone}
-use Rattle.tz_zone.specs.ZoneRef.{zone_of, own_zone_of}
-use Rattle.tz_query.specs.Program.{NamesZone, BeginsAnswers}
+use Rattle.tz_query.proofs.Common.{rules, sym, subst, arith, ◌≡◌, [], ℕ, inl, List, inr, ◌<◌, zone_of, Zone, append-nil, ◌⊎◌, NamesZone, Read, own_zone_of, BeginsAnswers}
+use Rattle.std.proofs.Common.{Option}
 use Rattle.tz_query.specs.Streams.{WritesAnswers, WritesFrontOfAnswers}
 use Rattle.tz_query.proofs.query.program.tool.Goals as goal
 
@@ -24,22 +21,24 @@ unread_never : {Names : Zone → Type 0} {P : Type 0} (status : ℕ) (own : Zone
 unread_never status own less asked (inl two) = absurd (omega arith)
 unread_never status own less asked (inr none) = absurd (none own asked)
 
-pub returns-in-Ok-run-clause-written : goal.returns-in-Ok-run-clause-written
-returns-in-Ok-run-clause-written g c =
-    inr (begun (zone_of c.as_ref.result) (own_zone_of c.in-Ok.zone) (g.R.Read.remaining c.args.input.now)
-    (g.R.Read.remaining c.run.new.input) (g.W.Write.contents c.args.out.now) (g.W.Write.contents c.run.new.out)
-    c.as_ref.ensures c.in-Ok.ensures.ok c.in-Ok-run.ensures.ok)
-
-pub returns-in-Ok-run-clause-answered : goal.returns-in-Ok-run-clause-answered
-returns-in-Ok-run-clause-answered g c = λ done. record {
-  zone = own_zone_of c.in-Ok.zone;
-  asked = c.in-Ok.ensures.ok;
-  wrote = subst (λ z. WritesAnswers z (g.R.Read.remaining c.args.input.now) (g.R.Read.remaining c.run.new.input)
-      (g.W.Write.contents c.args.out.now) (g.W.Write.contents c.run.new.out)) c.as_ref.ensures c.in-Ok-run.ensures.ok;
-}
-
-pub returns-in-Ok-run-clause-unread : goal.returns-in-Ok-run-clause-unread
-returns-in-Ok-run-clause-unread g c = unread_never 0 (own_zone_of c.in-Ok.zone) (omega arith) c.in-Ok.ensures.ok
+pub returns-in-Ok-run : goal.returns-in-Ok-run
+returns-in-Ok-run g c =
+    record {
+      status = search rules;
+      refused = search rules;
+      failed = search rules;
+      unread = unread_never 0 (own_zone_of c.in-Ok.zone) (omega arith) c.in-Ok.ensures.ok;
+      answered = λ done. record {
+        zone = own_zone_of c.in-Ok.zone;
+        asked = c.in-Ok.ensures.ok;
+        wrote = subst (λ z. WritesAnswers z (g.R.Read.remaining c.args.input.now) (g.R.Read.remaining c.run.new.input)
+            (g.W.Write.contents c.args.out.now) (g.W.Write.contents c.run.new.out))
+            c.as_ref.ensures c.in-Ok-run.ensures.ok;
+      };
+      written = inr (begun (zone_of c.as_ref.result) (own_zone_of c.in-Ok.zone) (g.R.Read.remaining c.args.input.now)
+          (g.R.Read.remaining c.run.new.input) (g.W.Write.contents c.args.out.now) (g.W.Write.contents c.run.new.out)
+          c.as_ref.ensures c.in-Ok.ensures.ok c.in-Ok-run.ensures.ok);
+    }
 
 pub returns-in-Ok-clause-unread : goal.returns-in-Ok-clause-unread
 returns-in-Ok-clause-unread g c =

@@ -1,22 +1,11 @@
 -- Each option has its letter, and names the zone of its value, or a value that makes none.
-use Rattle.std.proofs.Common.{◌≡◌, ◌≢◌, ◌≤◌, ◌<◌, ◌⊎◌, ℕ, ℤ, List, [], ◌∷◌, length, get_or, inl, inr, refl, sym, ap, subst, ◌∙◌, arith, rules}
-use Rattle.std.specs.Prelude.{Option, Some, Err, IfSome, alloc_error}
+use Rattle.tz_query.proofs.Common.{sym, subst, refl, arith, ◌≡◌, [], ap, ◌∷◌, ◌∙◌, length, rules, ℕ, inl, to_z-of_z, List, inr, ◌<◌, ℤ, Zone, get_or, ◌≤◌, w32, ◌≢◌, Err, Some, TzError, ◌⊎◌, IfSome, NamesZone, Option, Read, own_zone_of, IsOffset, IsRefusedOption, IsRefusedText, IsSettingsAnswer, IsZoneOfOption, Memory, NamesRefusedZone, alloc_error, err_from_is_err_and, fixed_zone, texts_of, usual_directories}
 use Rattle.std.specs.Borrow.{Bor}
 use Rattle.std.proofs.lemmas.Fn.{says_at}
-use Rattle.std.proofs.lemmas.Int.{to_z-of_z}
-use Rattle.std.proofs.lemmas.Result.{err_from_is_err_and}
-use mir.Syntax.{w32}
 use Rattle.tz_base.specs.declared.error.Error.{Error}
 use Rattle.anyhow.specs.declared.error.Error.{Error as Failure}
 use Rattle.tz_base.specs.declared.error.Error.TheVariants.{Io, Tz}
-use Rattle.tz_base.specs.declared.error.TzError.{TzError}
-use Rattle.tz_base.specs.declared.error.TzError.TheVariants.{Memory}
-use Rattle.tz_rule.specs.LocalTimeType.{IsOffset}
-use Rattle.tz_zone.specs.Settings.{Read, IsSettingsAnswer}
-use Rattle.tz_zone.specs.Table.{Zone}
 use Rattle.tz_zone.specs.TzFile.{IsTzFile}
-use Rattle.tz_zone.specs.ZoneRef.{own_zone_of}
-use Rattle.tz_query.specs.Program.{texts_of, fixed_zone, usual_directories, IsZoneOfOption, IsRefusedOption, IsRefusedText, NamesZone, NamesRefusedZone}
 use Rattle.tz_query.specs.declared.query.program.Fault.{Fault}
 use Rattle.tz_query.specs.declared.query.program.Fault.TheVariants as faults
 use Rattle.tz_query.proofs.query.program.zone_of_arguments.Goals as goal
@@ -176,12 +165,6 @@ returns-in-Ok-from_posix_tz-clause-ok g c =
     names c.args.arguments.now _ c.in-text-3.len_at_least c.in-text-3.len_below
     (inr (inr (c.in-text-3.is-text, c.in-Ok-from_posix_tz.ensures)))
 
-pub returns-in-text-3-clause-refused : goal.returns-in-text-3-clause-refused
-returns-in-text-3-clause-refused g c = λ e is.
-    let (same, other) = refused_by _ _ c.from.ensures e is in
-    refuses c.args.arguments.now _ c.in-text-3.len_at_least c.in-text-3.len_below
-    (inr (inr (c.in-text-3.is-text, text_refused _ _ _ e c.in-Err-Tz.ensures ((search rules) ∙ ap Tz same, other))))
-
 pub returns-in_err-fixed-in-text-clause-bad : goal.returns-in_err-fixed-in-text-clause-bad
 returns-in_err-fixed-in-text-clause-bad g c =
     let step = c.from_residual-in_err-fixed-in-text in
@@ -218,8 +201,17 @@ returns-in-Err-Io-clause-unread g c = λ is.
     let unread = text_unread _ _ c.in-Err-Io.field-0 c.in-Err-Io.field-0-0 c.in-Err-Io.ensures c.in-Err-Io.field-0-is in
     (_, _, two, inr (c.in-text-3.is-text, unread))
 
-pub returns-in-text-3-clause-bad : goal.returns-in-text-3-clause-bad
-returns-in-text-3-clause-bad g c = λ is. absurd (never_bad _ _ c.from.ensures is)
-
-pub returns-in-text-3-clause-unread : goal.returns-in-text-3-clause-unread
-returns-in-text-3-clause-unread g c = λ is. absurd (never_unread _ _ c.from.ensures is)
+pub returns-in-text-3 : goal.returns-in-text-3
+returns-in-text-3 g c =
+    record {
+      ok = search rules;
+      bad = λ is. absurd (never_bad _ _ c.from.ensures is);
+      unread = λ is. absurd (never_unread _ _ c.from.ensures is);
+      refused = λ e is.
+          let (same, other) = refused_by _ _ c.from.ensures e is in
+          refuses c.args.arguments.now _ c.in-text-3.len_at_least c.in-text-3.len_below
+          (inr (inr (
+            c.in-text-3.is-text,
+            text_refused _ _ _ e c.in-Err-Tz.ensures ((search rules) ∙ ap Tz same, other),
+          )));
+    }

@@ -1,7 +1,5 @@
 -- The line ends at the first LF, or where the bytes end.
-use Rattle.std.proofs.Common.{arith, ◌+◌, take, sym, subst}
-use Rattle.std.proofs.lemmas.List.{take_all, take_rest}
-use Rattle.tz_query.specs.Lines.{IsLine, IsFirstLine}
+use Rattle.tz_query.proofs.Common.{sym, subst, arith, ◌+◌, take, IsFirstLine, IsLine, take_rest, take_all}
 use Rattle.tz_query.proofs.LineFronts.{first_line_to_end, whole_line}
 use Rattle.tz_query.proofs.query.read_query.after_line.Goals as goal
 

@@ -1,5 +1,4 @@
-use Rattle.std.proofs.Common.{take}
-use Rattle.tz_query.specs.Lines.{IsLine}
+use Rattle.tz_query.proofs.Common.{take, IsLine}
 use Rattle.tz_query.proofs.query.read_query.after_line.Given as goal
 
 abbrev pub invariant-loop-position : goal.invariant-loop-position

@@ -1,8 +1,5 @@
 -- Each field is its number.
-use Rattle.std.proofs.Common.{pos, get_or, sym, subst, rules}
-use Rattle.std.proofs.lemmas.Int.{to_z-of_z}
-use mir.Syntax.{w32, w64}
-use mir.Val.{SFits}
+use Rattle.tz_query.proofs.Common.{sym, subst, rules, to_z-of_z, w64, pos, get_or, w32, SFits}
 use Rattle.tz_query.proofs.LineFronts.{unsigned_value, seven_numbers}
 use Rattle.tz_query.proofs.query.read_query.fields_of.Goals as goal
 

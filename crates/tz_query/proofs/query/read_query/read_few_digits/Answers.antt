@@ -1,5 +1,5 @@
 -- The digits are those up to the position that was read to.
-use Rattle.std.proofs.Common.{◌<◌, ◌≤◌, ◌+◌, refl, arith}
+use Rattle.tz_query.proofs.Common.{refl, arith, ◌+◌, ◌<◌, ◌≤◌}
 use Rattle.tz_query.proofs.FastNumbers.{number_at, byte_at, few_in_window, end_before, value_in_window}
 use Rattle.tz_query.proofs.query.read_query.read_few_digits.Goals as goal
 

@@ -1,11 +1,5 @@
 -- The digits are copied, after zeros where they are fewer than nine.
-use Rattle.std.proofs.Common.{◌≡◌, ℕ, ◌+◌, ◌<◌, ◌≤◌, List, ◌∷◌, ◌++◌, pos, replicate, length, drop, get_or, set, refl, ap, ◌∙◌, subst, arith, rules}
-use Rattle.std.specs.Prelude.{slice_range}
-use Rattle.std.specs.Float.Numeral.{digits_len}
-use Rattle.std.specs.Str.Parse.{digits_value}
-use Rattle.std.proofs.lemmas.List.{length-set}
-use Rattle.tz.specs.PrintedText.{nine_digits}
-use Rattle.tz_query.specs.Numbers.{IsPartFront}
+use Rattle.tz_query.proofs.Common.{subst, refl, arith, ◌≡◌, ap, ◌∷◌, ◌∙◌, ◌++◌, length, rules, ℕ, List, ◌+◌, ◌<◌, drop, pos, get_or, ◌≤◌, IsPartFront, nine_digits, digits_value, digits_len, replicate, slice_range, length-set, set}
 use Rattle.tz_query.proofs.FastNumbers.{front_at, length_at, byte_at, few_in_window, end_before, digits_of_nine, nine_digits_are, one_more_zero, plain_part}
 use Rattle.tz_query.proofs.query.read_query.read_nanoseconds.Goals as goal
 

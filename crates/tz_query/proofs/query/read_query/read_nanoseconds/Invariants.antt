@@ -1,5 +1,5 @@
 -- The first bytes are zeros.
-use Rattle.std.proofs.Common.{◌≡◌, length, replicate, ◌++◌, drop}
+use Rattle.tz_query.proofs.Common.{◌≡◌, ◌++◌, length, drop, replicate}
 use Rattle.tz_query.proofs.query.read_query.read_nanoseconds.Given as goal
 
 abbrev pub invariant-loop-index : goal.invariant-loop-index

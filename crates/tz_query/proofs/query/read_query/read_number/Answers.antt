@@ -1,13 +1,6 @@
 -- Digits, or a minus and digits, are the number, if it is one of 64 bits.
-use Rattle.std.proofs.Common.{◌≡◌, ◌<◌, pos, neg_ℤ, length, take, drop, sym, subst, arith, rules}
-use Rattle.std.specs.Prelude.{FitsSigned}
+use Rattle.tz_query.proofs.Common.{sym, subst, arith, ◌≡◌, length, rules, to_z-of_z, ◌<◌, take, drop, pos, ints, SFits, take_rest, digits_value, EndsDigits, FitsSigned, IsNumberFront, length-take-le, neg_ℤ}
 use Rattle.std.specs.Int.{w64}
-use Rattle.std.specs.Str.Parse.{digits_value}
-use Rattle.std.proofs.lemmas.Int.{ints, to_z-of_z}
-use Rattle.std.proofs.lemmas.List.{length-take-le, take_rest}
-use mir.Val.{SFits}
-use Rattle.tz.specs.DateTimeText.{EndsDigits}
-use Rattle.tz_query.specs.Numbers.{IsNumberFront}
 use Rattle.tz_query.proofs.NumberFronts.{plain_number, minus_number, no_number, NoNumber, no_other_number, IfNone-anyway}
 use Rattle.tz_query.proofs.query.read_query.read_number.Goals as goal
 

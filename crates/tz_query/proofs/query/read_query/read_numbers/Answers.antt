@@ -1,10 +1,6 @@
 -- Each number is one more, and where one is missing there are fewer.
-use Rattle.std.proofs.Common.{◌≡◌, ◌+◌, ◌<◌, ◌∙◌, length, take, [], refl, sym, ap, subst, inl, inr, arith, rules}
-use Rattle.std.proofs.lemmas.Int.{to_z-of_z}
+use Rattle.tz_query.proofs.Common.{sym, subst, refl, arith, ◌≡◌, [], ap, ◌∙◌, length, rules, inl, to_z-of_z, inr, w64, ◌+◌, ◌<◌, take, ArePartsFront, take_all, IsNumberFront, length-take-le, nil_from_length, length-set}
 use Rattle.std.proofs.lemmas.Grind.{take-set_at}
-use Rattle.std.proofs.lemmas.List.{nil_from_length, length-set, length-take-le, take_all}
-use mir.Syntax.{w64}
-use Rattle.tz_query.specs.Numbers.{IsNumberFront, ArePartsFront}
 use Rattle.tz_query.proofs.AnswerLines.{some_left}
 use Rattle.tz_query.proofs.NumberFronts.{parts_more, IfNone-anyway}
 use Rattle.tz_query.proofs.LineFronts.{NoNumbers, line_of_parts, next_part, end_of_parts}

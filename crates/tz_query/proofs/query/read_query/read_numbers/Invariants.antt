@@ -1,5 +1,4 @@
-use Rattle.std.proofs.Common.{◌≡◌, length, take}
-use Rattle.tz_query.specs.Numbers.{ArePartsFront}
+use Rattle.tz_query.proofs.Common.{◌≡◌, length, take, ArePartsFront}
 use Rattle.tz_query.proofs.query.read_query.read_numbers.Given as goal
 
 abbrev pub invariant-loop-position : goal.invariant-loop-position

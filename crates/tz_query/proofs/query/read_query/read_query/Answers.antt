@@ -1,15 +1,6 @@
 -- Each letter has its numbers, and where one is missing or too great there is no query.
-use Rattle.std.proofs.Common.{◌≡◌, ◌∷◌, [], ℕ, pos, get_or, take, drop, length, length-drop, refl, sym, ap, ◌∙◌, subst, arith, rules}
-use Rattle.std.proofs.lemmas.Int.{ints, to_z-of_z}
-use Rattle.std.proofs.lemmas.List.{drop_more, take_all}
-use Rattle.std.proofs.lemmas.List.Elements.{All-cons, All-from_recursion}
-use Rattle.std.specs.Prelude.{FitsSigned}
-use Rattle.std.specs.Int.{FitsUnsignedBits}
-use Rattle.std.specs.declared.num.TryFromIntError.{TryFromIntError}
-use Rattle.tz_base.specs.declared.fields.Fields.{Fields}
-use mir.Syntax.{w64}
-use mir.Val.{SFits}
-use Rattle.tz_query.specs.Queries.{time_letter, search_letter, meeting_letter, IsLineOf, AreFieldsOfBits, numbers_of}
+use Rattle.tz_query.proofs.Common.{sym, subst, refl, arith, ◌≡◌, [], ap, ◌∷◌, ◌∙◌, length, rules, ℕ, to_z-of_z, w64, take, Fields, drop, pos, get_or, ints, SFits, All-cons, take_all, FitsSigned, meeting_letter, numbers_of, search_letter, AreFieldsOfBits, IsLineOf, drop_more, time_letter, All-from_recursion, FitsUnsignedBits, TryFromIntError}
+use Rattle.std.proofs.Common.{length-drop}
 use Rattle.tz_query.proofs.NumberFronts.{IfNone-anyway}
 use Rattle.tz_query.proofs.LineFronts.{NoQuery, only_time, only_search, only_meeting, fields_fit, unsigned_value, two_numbers, none_if_not, some_if, none_if_err, some_if_ok, line_from_numbers, numbers_unique}
 use Rattle.tz_query.proofs.query.read_query.read_query.Goals as goal

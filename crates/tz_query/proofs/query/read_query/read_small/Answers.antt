@@ -1,5 +1,5 @@
 -- One digit or two stand before a space.
-use Rattle.std.proofs.Common.{◌≡◌, ◌+◌, ◌*◌, [], ◌∷◌, drop, get_or, refl, ap, ◌∙◌, arith}
+use Rattle.tz_query.proofs.Common.{refl, arith, ◌≡◌, [], ap, ◌∷◌, ◌∙◌, ◌+◌, drop, get_or, ◌*◌}
 use Rattle.tz_query.proofs.FastNumbers.{byte_at, front_before_space}
 use Rattle.tz_query.proofs.query.read_query.read_small.Goals as goal
 

@@ -1,12 +1,10 @@
 -- A plain number, or one with a minus.
-use Rattle.std.proofs.Common.{◌≡◌, ◌+◌, ◌∷◌, drop, ap, ◌∙◌, arith, subst}
-use Rattle.std.proofs.lemmas.Int.{ints}
-use Rattle.tz_query.specs.Numbers.{IsPartFront}
+use Rattle.tz_query.proofs.Common.{rules, subst, arith, ◌≡◌, ap, ◌∷◌, ◌∙◌, ◌+◌, drop, ints, IsPartFront}
 use Rattle.tz_query.proofs.FastNumbers.{byte_at, plain_part, minus_part}
 use Rattle.tz_query.proofs.query.read_query.read_usual_number.Goals as goal
 
-pub returns-then-bytes-position-eq45-clause-number : goal.returns-then-bytes-position-eq45-clause-number
-returns-then-bytes-position-eq45-clause-number c =
+pub returns-then-bytes-position-eq45 : goal.returns-then-bytes-position-eq45
+returns-then-bytes-position-eq45 c =
     let bs = c.args.bytes.now in
     let position = c.args.position in
     let read = c.in_ok-size.ensures.number in
@@ -16,8 +14,12 @@ returns-then-bytes-position-eq45-clause-number c =
     ∙ ap (λ n. 45 ∷ drop n bs) (omega arith)) in
     let part = minus_part (drop (position + 2) bs) read.0 (drop c.in_ok-size.end bs) read.1 read.2
     (drop position bs) space in
-    subst (λ n. IsPartFront (drop position bs) n (drop c.in_ok-size.end bs))
-    (omega (arith, ints, read.3, c.in_ok-size.ensures.bound.0)) part
+    record {
+      number = subst (λ n. IsPartFront (drop position bs) n (drop c.in_ok-size.end bs))
+          (omega (arith, ints, read.3, c.in_ok-size.ensures.bound.0)) part;
+      bound = omega (arith, ints, c.in_ok-size.ensures.bound.0);
+      end = search rules;
+    }
 
 pub returns-clause-number : goal.returns-clause-number
 returns-clause-number c =
@@ -31,9 +33,6 @@ returns-clause-number c =
 
 pub overflow_sub-result : goal.overflow_sub-result
 overflow_sub-result c = omega (arith, ints, c.in_ok-size.ensures.bound.0)
-
-pub returns-then-bytes-position-eq45-clause-bound : goal.returns-then-bytes-position-eq45-clause-bound
-returns-then-bytes-position-eq45-clause-bound c = omega (arith, ints, c.in_ok-size.ensures.bound.0)
 
 pub returns-clause-bound : goal.returns-clause-bound
 returns-clause-bound c = omega (arith, ints, c.in_ok-size-2.ensures.bound.0)

@@ -1,14 +1,5 @@
 -- `F`, seven numbers and LF are the first line.
-use Rattle.std.proofs.Common.{◌∷◌, ◌∙◌, ◌+◌, ℤ, drop, inl, refl, sym, subst, arith, rules}
-use Rattle.std.proofs.lemmas.Int.{to_z-of_z}
-use Rattle.std.proofs.lemmas.List.{take_rest}
-use mir.Syntax.{w32, w64}
-use mir.Val.{SFits}
-use Rattle.std.specs.declared.num.TryFromIntError.{TryFromIntError}
-use Rattle.tz_base.specs.declared.fields.Fields.{Fields}
-use Rattle.tz_query.specs.Lines.{IsFirstLine, line_feed}
-use Rattle.tz_query.specs.Numbers.{ArePartsFront, IsPartFront}
-use Rattle.tz_query.specs.Queries.{search_letter, AreFieldsOfBits, numbers_of}
+use Rattle.tz_query.proofs.Common.{sym, subst, refl, arith, ◌∷◌, ◌∙◌, rules, inl, to_z-of_z, w64, ◌+◌, ℤ, Fields, drop, line_feed, w32, IsFirstLine, SFits, IsPartFront, take_rest, ArePartsFront, numbers_of, search_letter, AreFieldsOfBits, TryFromIntError}
 use Rattle.tz_query.proofs.FastNumbers.{byte_at}
 use Rattle.tz_query.proofs.LineFronts.{line_from_front, some_if}
 use Rattle.tz_query.proofs.query.read_query.read_usual_search_line.Goals as goal

@@ -1,10 +1,5 @@
 -- `T`, two numbers and LF are the first line.
-use Rattle.std.proofs.Common.{◌^◌, ◌<◌, pos, [], ◌∷◌, drop, inl, refl, sym, subst, arith, rules}
-use Rattle.std.proofs.lemmas.Int.{to_z-of_z}
-use Rattle.std.proofs.lemmas.List.{take_rest}
-use mir.Syntax.{w64}
-use mir.Val.{SFits}
-use Rattle.tz_query.specs.Lines.{IsFirstLine, line_feed}
+use Rattle.tz_query.proofs.Common.{sym, subst, refl, arith, [], ◌∷◌, rules, inl, to_z-of_z, w64, ◌<◌, drop, pos, line_feed, IsFirstLine, SFits, take_rest, ◌^◌}
 use Rattle.tz_query.proofs.FastNumbers.{byte_at}
 use Rattle.tz_query.proofs.LineFronts.{line_from_front}
 use Rattle.tz_query.proofs.query.read_query.read_usual_time_line.Goals as goal

@@ -1,11 +1,6 @@
 -- The bits that are set are those of the digits, the letters, `+` and `-`.
-use Rattle.std.proofs.Common.{◌≡◌, ℕ, ◌/◌, ◌%◌, ◌^◌, ◌<◌, ◌≤◌, Bool, true, leb, eqb, ◌&&◌, ◌||◌, get_or, refl, sym, subst, arith, Decides, ◌↔◌}
-use Rattle.std.specs.Bool.{IsTrue, beq}
+use Rattle.tz_rule.proofs.Common.{arith, ◌≡◌, ℕ, refl, sym, ◌<◌, Bool, true, ◌≤◌, ◌%◌, get_or, Decides-eqb, nat_tests, ◌&&◌, all_below, eqb, passes_at, subst, Decides, Decides-beq, IsDesignationByte, ◌/◌, beq, ◌||◌, Decides-or, IsTrue, leb, ◌^◌, ◌↔◌}
 use Rattle.std.specs.Int.Bits.{bit_and}
-use Rattle.std.proofs.lemmas.Bool.Decides.{nat_tests, Decides-eqb, Decides-or}
-use Rattle.tz_base.proofs.TestsBelow.{all_below, passes_at}
-use Rattle.tz_rule.specs.LocalTimeType.{IsDesignationByte}
-use Rattle.tz_rule.specs.Same.{Decides-beq}
 use Rattle.tz_rule.specs.declared.timezone.local_time_type.TheConstants.{NAME_BITS}
 use Rattle.tz_rule.proofs.timezone.local_time_type.is_designation_byte.Goals as goal
 

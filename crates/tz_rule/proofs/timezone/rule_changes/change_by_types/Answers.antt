@@ -1,7 +1,5 @@
 -- Between two types that are the same there is no change.
-use Rattle.std.proofs.Common.{◌∙◌, sym, subst, ℤ, pos, ◌-ℤ◌}
-use Rattle.tz_rule.specs.Rule.{IsRuleType}
-use Rattle.tz_rule.specs.Same.{Decides-same_type}
+use Rattle.tz_rule.proofs.Common.{pos, ◌∙◌, ℤ, sym, ◌-ℤ◌, IsRuleType, subst, Decides-same_type}
 use Rattle.tz_rule.proofs.RuleTypes.{rule_type_unique}
 use Rattle.tz_rule.proofs.timezone.rule_changes.change_by_types.Goals as goal
 

@@ -1,8 +1,5 @@
 -- Rules are defined in all of their years and in no others.
-use Rattle.std.proofs.Common.{◌≡◌, inl, inr, refl, arith, pos, ◌-ℤ◌, ◌≤ℤ◌, to_z, of_z}
-use Rattle.std.proofs.lemmas.Int.{ints, by_lt_z}
-use mir.Syntax.{w64}
-use Rattle.tz_rule.specs.Rule.{IsRuleType}
+use Rattle.tz_rule.proofs.Common.{arith, ◌≡◌, ints, pos, refl, ◌≤ℤ◌, ◌-ℤ◌, w64, inl, inr, by_lt_z, IsRuleType, of_z, to_z}
 use Rattle.tz_rule.proofs.RuleSegments.{IsInRuleYears-between, IsInRuleYears-bounds}
 use Rattle.tz_rule.proofs.timezone.rule_segments.undefined_segment.Goals as goal
 

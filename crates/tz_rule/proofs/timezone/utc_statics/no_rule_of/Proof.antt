@@ -1,6 +1,5 @@
 -- A `&` to no rule, in plain types, holds what one to no rule does. Assumes `Logic`.
-use Rattle.std.specs.Prelude.{None}
-use base.Logic.{id⊢}
+use Rattle.tz_rule.proofs.Common.{None, id⊢}
 use Rattle.std.specs.contracts.option.Option as Option
 use Rattle.tz_rule.specs.contracts.timezone.transition_rule.TransitionRule as TransitionRule
 use Rattle.tz_rule.specs.contracts.timezone.utc_statics.RuleFields as RuleFields

@@ -1,13 +1,6 @@
 -- A `&` to the fields of UTC's type holds what one to the type does. Assumes `Logic`.
-use Rattle.std.proofs.Common.{◌≡◌, [], ◌∷◌, refl, arith}
-use Rattle.std.specs.Prelude.{false, None, pos}
-use base.Logic.{id⊢}
-use base.Fml.{ftrue}
-use denote.Memory.{hidden_shr}
-use denote.Steps.{nothing}
-use types.Kit.{‵, ◌$◌, ◌∵◌, !, qed, done, move, use2, fpack}
-use Rattle.tz_rule.specs.Designation.{kept}
-use Rattle.tz_rule.specs.LocalTimeType.{plain_type}
+use Rattle.tz_rule.proofs.Common.{arith, ◌≡◌, refl, [], ◌∷◌, !, None, done, ftrue, hidden_shr, id⊢, kept, move, nothing, qed, ‵, ◌$◌, ◌∵◌, fpack, plain_type, use2}
+use Rattle.std.specs.Prelude.{false, pos}
 use Rattle.tz_rule.specs.contracts.timezone.local_time_type.LocalTimeType as LocalTimeType
 use Rattle.tz_rule.specs.contracts.timezone.utc_statics.TypeFields as TypeFields
 use Rattle.tz_rule.proofs.Casts.{cast_Meets}

@@ -1,6 +1,5 @@
 -- A year counted by the average length begins less than two days from the one that is meant.
-use Rattle.std.proofs.Common.{refl, arith}
-use Rattle.std.proofs.lemmas.Int.{ints}
+use Rattle.tz_rule.proofs.Common.{arith, ints, refl}
 use Rattle.tz_rule.proofs.InnerSwitches.{IsLikelyYear-by_average}
 use Rattle.tz_rule.proofs.timezone.year_table.likely_year.Goals as goal
 

@@ -1,9 +1,5 @@
 -- By the closed form of the days before the year, which is moved by cycles of 400 years.
-use Rattle.std.proofs.Common.{◌≡◌, ◌+◌, ◌%◌, ap, sym, ◌∙◌, arith, pos, ◌+ℤ◌, ◌-ℤ◌}
-use Rattle.std.proofs.lemmas.Int.{ints}
-use Rattle.tz_base.specs.Days.{is_leap}
-use Rattle.tz_base.proofs.YearStarts.{first_day-moved, is_leap-moved, days_of_years_bounds}
-use Rattle.tz_rule.specs.Kinds.{kind_of, year_kind}
+use Rattle.tz_rule.proofs.Common.{arith, ◌≡◌, ints, pos, ◌∙◌, ◌+ℤ◌, sym, ap, ◌-ℤ◌, ◌+◌, ◌%◌, is_leap, year_kind, kind_of, first_day-moved, is_leap-moved, days_of_years_bounds}
 use Rattle.tz_rule.proofs.Weeks.{week_day_of_year-moved}
 use Rattle.tz_rule.proofs.UtcYears.{year_fits}
 use Rattle.tz_rule.proofs.timezone.year_table.moved_year_start.Goals as goal

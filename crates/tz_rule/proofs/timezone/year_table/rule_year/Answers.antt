@@ -1,7 +1,5 @@
 -- The year of the civil fields is the only year of the instant.
-use Rattle.std.proofs.Common.{arith, rules}
-use Rattle.std.proofs.lemmas.Int.{ints, to_z-of_z}
-use mir.Syntax.{w32, w64}
+use Rattle.tz_rule.proofs.Common.{arith, ints, to_z-of_z, rules, w64, w32}
 use Rattle.tz_rule.proofs.UtcYears.{IsUtcYear-from_civil, utc_year_unique, IsReading-from_rule_year}
 use Rattle.tz_rule.proofs.timezone.year_table.rule_year.Goals as goal
 use Rattle.tz_rule.proofs.timezone.year_table.rule_year.Goals.{then-year-lt-FIRST_YEAR-via-then-year-lt-FIRST_YEAR, then-year-lt-FIRST_YEAR-via-else-year-lt-FIRST_YEAR+then-year-gt-LAST_YEAR}

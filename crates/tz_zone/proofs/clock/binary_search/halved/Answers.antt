@@ -1,9 +1,5 @@
 -- A power of two that is not another one up to it is twice a power of two, which is not less than that one.
-use Rattle.std.proofs.Common.{◌∙◌, ℕ, sym, subst, arith}
-use Rattle.std.proofs.lemmas.Int.{to_z-of_z}
-use Rattle.std.proofs.Math.Pow.{pow_mono}
-use mir.Syntax.{w64}
-use Rattle.tz_zone.specs.PositionsLeft.{IsAmongPositions}
+use Rattle.tz_zone.proofs.Common.{arith, to_z-of_z, ℕ, w64, sym, ◌∙◌, subst, IsAmongPositions, pow_mono}
 use Rattle.tz_zone.proofs.PowerSteps.{half_power}
 use Rattle.tz_zone.proofs.clock.binary_search.halved.Goals as goal
 

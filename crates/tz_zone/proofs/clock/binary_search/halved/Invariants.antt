@@ -1,6 +1,5 @@
 -- The positions that are left are as many as a power of two, and a look is taken for each halving.
-use Rattle.std.proofs.Common.{◌≡◌, ℕ, ◌+◌, ◌^◌, ◌≤◌}
-use Rattle.tz_zone.specs.PositionsLeft.{IsAmongPositions}
+use Rattle.tz_zone.proofs.Common.{◌≡◌, ℕ, ◌≤◌, ◌+◌, ◌^◌, IsAmongPositions}
 use Rattle.tz_zone.proofs.clock.binary_search.halved.Given as goal
 
 abbrev pub invariant-loop-left : goal.invariant-loop-left

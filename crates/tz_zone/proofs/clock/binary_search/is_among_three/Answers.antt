@@ -1,8 +1,5 @@
 -- What is reached is reached with all before it, and what is ahead with all after it.
-use Rattle.std.proofs.Common.{◌+◌, ◌-◌, ◌≤ℤ◌, ◌<ℤ◌, ℕ, sym, subst, arith, rules}
-use Rattle.std.proofs.lemmas.Int.{ints, to_z-of_z}
-use mir.Syntax.{w64}
-use Rattle.tz_zone.specs.Clock.{AreReached, AreAhead}
+use Rattle.tz_zone.proofs.Common.{arith, to_z-of_z, ℕ, rules, ints, w64, sym, subst, ◌≤ℤ◌, ◌<ℤ◌, ◌-◌, ◌+◌, AreReached, AreAhead}
 use Rattle.tz_zone.proofs.RisingTimes.{ahead_from, reached_through}
 use Rattle.tz_zone.proofs.clock.binary_search.is_among_three.Goals as goal
 

@@ -1,8 +1,5 @@
 -- The leap time lies at the position.
-use Rattle.std.proofs.Common.{rules}
-use Rattle.std.proofs.lemmas.Int.{to_z-of_z}
-use mir.Syntax.{w64}
-use Rattle.tz_zone.specs.ZoneOfData.{zone_of_data}
+use Rattle.tz_zone.proofs.Common.{to_z-of_z, rules, w64, zone_of_data}
 use Rattle.tz_zone.proofs.Positions.{reached_at}
 use Rattle.tz_zone.proofs.clock.binary_search.position_at.Goals as goal
 

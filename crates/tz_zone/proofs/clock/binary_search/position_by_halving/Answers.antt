@@ -1,5 +1,5 @@
 -- The looks are one more than the exponent of the greatest power of two below the number of transitions.
-use Rattle.std.proofs.Common.{◌<◌, ◌^◌, refl, arith, length}
+use Rattle.tz_zone.proofs.Common.{arith, refl, length, ◌<◌, ◌^◌}
 use Rattle.tz_zone.proofs.PowerSteps.{exponent_less, exponent_up_to}
 use Rattle.tz_zone.proofs.clock.binary_search.position_by_halving.Goals as goal
 

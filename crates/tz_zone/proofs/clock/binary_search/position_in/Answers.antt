@@ -1,9 +1,5 @@
 -- The leap time lies at the position.
-use Rattle.std.proofs.Common.{◌-◌, ◌<◌, refl, arith, rules, length}
-use Rattle.std.proofs.lemmas.Int.{to_z-of_z}
-use Rattle.std.proofs.lemmas.Option.{slice_get_read}
-use mir.Syntax.{w64}
-use Rattle.tz_zone.specs.ZoneOfData.{zone_of_data}
+use Rattle.tz_zone.proofs.Common.{arith, to_z-of_z, rules, w64, refl, length, ◌<◌, zone_of_data, ◌-◌, slice_get_read}
 use Rattle.tz_zone.proofs.Positions.{reached_at}
 use Rattle.tz_zone.proofs.RisingTimes.{rising}
 use Rattle.tz_zone.proofs.SegmentTypes.{match_none}

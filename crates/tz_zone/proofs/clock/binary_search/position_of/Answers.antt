@@ -1,9 +1,5 @@
 -- If the last transition is reached, all are.
-use Rattle.std.proofs.Common.{◌-◌, ◌≤ℤ◌, ◌<ℤ◌, ℕ, subst, arith, rules, length}
-use Rattle.std.proofs.lemmas.Int.{ints, to_z-of_z}
-use Rattle.std.proofs.lemmas.Option.{slice_get_within}
-use mir.Syntax.{w64}
-use Rattle.tz_zone.specs.Clock.{AreReached}
+use Rattle.tz_zone.proofs.Common.{arith, to_z-of_z, ℕ, rules, ints, w64, length, subst, ◌≤ℤ◌, ◌<ℤ◌, ◌-◌, slice_get_within, AreReached}
 use Rattle.tz_zone.proofs.RisingTimes.{ahead_from, reached_through}
 use Rattle.tz_zone.proofs.clock.binary_search.position_of.Goals as goal
 

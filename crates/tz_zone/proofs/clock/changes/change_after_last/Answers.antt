@@ -1,12 +1,7 @@
 -- Without leap seconds the transition before the position takes effect at its time, and so the instant lies at the
 -- position.
-use Rattle.std.proofs.Common.{◌≡◌, ◌∙◌, ℕ, ◌-◌, ◌<◌, refl, sym, ap, subst, arith, rules, ℤ, length, to_z}
-use Rattle.std.proofs.lemmas.Int.{to_z-of_z}
-use Rattle.std.proofs.lemmas.Option.{slice_get_read}
-use mir.Syntax.{w64}
-use mir.Val.{SFits}
-use Rattle.tz_zone.specs.ClockSegments.{IsReachedAt}
-use Rattle.tz_zone.specs.ZoneOfData.{zone_of_data}
+use Rattle.tz_zone.proofs.Common.{◌≡◌, arith, to_z-of_z, ℕ, rules, w64, refl, sym, length, ℤ, ◌∙◌, subst, ◌<◌, ap, zone_of_data, ◌-◌, SFits, slice_get_read, IsReachedAt}
+use Rattle.std.proofs.Common.{to_z}
 use Rattle.tz_zone.proofs.EmptyLists.{none_if_empty}
 use Rattle.tz_zone.proofs.LeapTimes.{instant_bounds}
 use Rattle.tz_zone.proofs.PositionRuns.{plain_position}

@@ -1,14 +1,6 @@
 -- Without leap seconds the last transition has taken effect at its time, and the second before lies at the position
 -- before it.
-use Rattle.std.proofs.Common.{◌≡◌, ℕ, ◌-◌, ◌<◌, ◌≤◌, refl, subst, arith, rules, pos, negsuc, ◌-ℤ◌, ◌<ℤ◌, length}
-use Rattle.std.proofs.lemmas.Int.{ints, to_z-of_z}
-use Rattle.std.proofs.lemmas.Option.{slice_get_read}
-use mir.Syntax.{w64}
-use mir.Val.{SFits}
-use Rattle.tz_zone.specs.Changes.{change_of}
-use Rattle.tz_zone.specs.Clock.{IsTypeOfLast}
-use Rattle.tz_zone.specs.Runs.{LiesAt, IsRunStart}
-use Rattle.tz_zone.specs.ZoneOfData.{zone_of_data}
+use Rattle.tz_zone.proofs.Common.{◌≡◌, arith, to_z-of_z, ℕ, rules, ints, w64, refl, length, subst, ◌<◌, ◌<ℤ◌, pos, zone_of_data, ◌-ℤ◌, ◌-◌, ◌≤◌, SFits, negsuc, slice_get_read, IsTypeOfLast, change_of, IsRunStart, LiesAt}
 use Rattle.tz_zone.proofs.EmptyLists.{none_if_empty}
 use Rattle.tz_zone.proofs.LeapTimes.{instant_bounds}
 use Rattle.tz_zone.proofs.InstantsWithLeapTime.{plain_effect}

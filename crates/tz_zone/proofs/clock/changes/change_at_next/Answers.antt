@@ -1,12 +1,5 @@
 -- Without leap seconds the next transition takes effect at its time, and the one after it is still ahead then.
-use Rattle.std.proofs.Common.{◌≡◌, ℕ, ◌+◌, ◌<◌, ◌≤◌, refl, subst, arith, rules, pos, ◌+ℤ◌, length}
-use Rattle.std.proofs.lemmas.Int.{ints, to_z-of_z}
-use Rattle.std.proofs.lemmas.Option.{slice_get_read}
-use mir.Syntax.{w64}
-use mir.Val.{SFits}
-use Rattle.tz_zone.specs.Changes.{change_of, HasNoChange}
-use Rattle.tz_zone.specs.Clock.{IsTypeOfLast}
-use Rattle.tz_zone.specs.ZoneOfData.{zone_of_data}
+use Rattle.tz_zone.proofs.Common.{◌≡◌, arith, to_z-of_z, ℕ, rules, ints, w64, refl, length, subst, ◌<◌, pos, zone_of_data, ◌≤◌, ◌+ℤ◌, ◌+◌, SFits, slice_get_read, IsTypeOfLast, change_of, HasNoChange}
 use Rattle.tz_zone.proofs.EmptyLists.{none_if_empty}
 use Rattle.tz_zone.proofs.LeapTimes.{instant_bounds}
 use Rattle.tz_zone.proofs.Positions.{clock_at_position}

@@ -1,10 +1,6 @@
 -- Without leap seconds the second before the time of the transition after the position lies at the position.
-use Rattle.std.proofs.Common.{◌≡◌, ◌∙◌, ◌<◌, refl, sym, ap, subst, arith, rules, ℤ, pos, ◌-ℤ◌, length, to_z}
-use Rattle.std.proofs.lemmas.Int.{to_z-of_z}
-use Rattle.std.proofs.lemmas.Option.{slice_get_read}
-use mir.Syntax.{w64}
-use Rattle.tz_zone.specs.ClockSegments.{IsReachedAt}
-use Rattle.tz_zone.specs.ZoneOfData.{zone_of_data}
+use Rattle.tz_zone.proofs.Common.{◌≡◌, arith, to_z-of_z, rules, w64, refl, sym, length, ℤ, ◌∙◌, subst, ◌<◌, ap, pos, zone_of_data, ◌-ℤ◌, slice_get_read, IsReachedAt}
+use Rattle.std.proofs.Common.{to_z}
 use Rattle.tz_zone.proofs.EmptyLists.{none_if_empty}
 use Rattle.tz_zone.proofs.PositionRuns.{plain_position_before}
 use Rattle.tz_zone.proofs.clock.changes.change_before_next.Goals as goal

@@ -1,10 +1,5 @@
 -- The type at the next position is that of the transition before it.
-use Rattle.std.proofs.Common.{◌∙◌, ◌+◌, ◌<◌, refl, sym, subst, arith, length}
-use Rattle.std.proofs.lemmas.Option.{slice_get_read}
-use Rattle.tz_rule.specs.LocalTimeType.{LocalTimeType}
-use Rattle.tz_rule.specs.Same.{Decides-same_type}
-use Rattle.tz_zone.specs.Clock.{IsTypeAt}
-use Rattle.tz_zone.specs.ZoneOfData.{zone_of_data}
+use Rattle.tz_zone.proofs.Common.{arith, refl, sym, length, ◌∙◌, subst, ◌<◌, zone_of_data, LocalTimeType, ◌+◌, slice_get_read, IsTypeAt, Decides-same_type}
 use Rattle.tz_zone.proofs.PositionRuns.{type_after, types_on}
 use Rattle.tz_zone.proofs.clock.changes.end_of_run.Goals as goal
 

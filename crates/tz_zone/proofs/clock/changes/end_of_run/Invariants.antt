@@ -1,7 +1,5 @@
 -- All positions so far have the type.
-use Rattle.std.proofs.Common.{ℕ, ◌-◌, ◌<◌, ◌≤◌, length}
-use Rattle.tz_zone.specs.Clock.{IsTypeOfLast}
-use Rattle.tz_zone.specs.ZoneOfData.{zone_of_data}
+use Rattle.tz_zone.proofs.Common.{ℕ, length, ◌<◌, zone_of_data, ◌-◌, ◌≤◌, IsTypeOfLast}
 use Rattle.tz_zone.proofs.clock.changes.end_of_run.Given as goal
 
 abbrev pub invariant-loop-end : goal.invariant-loop-end

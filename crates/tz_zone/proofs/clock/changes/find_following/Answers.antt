@@ -1,11 +1,5 @@
 -- What follows the first instant with a leap time follows the instant before it.
-use Rattle.std.proofs.Common.{◌≡◌, ℕ, subst, arith, rules, length}
-use Rattle.std.proofs.lemmas.Int.{to_z-of_z}
-use mir.Syntax.{w64}
-use Rattle.tz_zone.specs.Changes.{change_of, IsFollowing, HasNoFollowing}
-use Rattle.tz_zone.specs.ClockSegments.{IsReachedAt}
-use Rattle.tz_zone.specs.Table.{Zone}
-use Rattle.tz_zone.specs.ZoneOfData.{zone_of_data}
+use Rattle.tz_zone.proofs.Common.{◌≡◌, arith, to_z-of_z, ℕ, rules, w64, length, subst, zone_of_data, Zone, IsReachedAt, change_of, IsFollowing, HasNoFollowing}
 use Rattle.tz_zone.proofs.EmptyLists.{none_if_empty, some_unless_empty, length_of_some}
 use Rattle.tz_zone.proofs.SegmentTypes.{match_none}
 use Rattle.tz_zone.proofs.ChangeSpans.{following_later, no_following_later, match_mapped}

@@ -1,11 +1,6 @@
 -- Between the last instant with a leap time and the instant there is no change.
-use Rattle.std.proofs.Common.{◌≡◌, subst, arith, rules, ℤ, pos, negsuc, ◌+ℤ◌, ◌-ℤ◌, ◌<ℤ◌, to_z, of_z}
-use Rattle.std.proofs.lemmas.Int.{ints, to_z-of_z}
-use mir.Syntax.{w64}
-use mir.Val.{SFits}
-use Rattle.tz_zone.specs.Table.{Zone}
-use Rattle.tz_zone.specs.Changes.{change_of, IsPreceding, HasNoPreceding}
-use Rattle.tz_zone.specs.ZoneOfData.{zone_of_data}
+use Rattle.tz_zone.proofs.Common.{◌≡◌, arith, to_z-of_z, rules, ints, w64, ℤ, subst, ◌<ℤ◌, pos, zone_of_data, ◌-ℤ◌, Zone, ◌+ℤ◌, SFits, negsuc, change_of, HasNoPreceding, IsPreceding}
+use Rattle.std.proofs.Common.{to_z, of_z}
 use Rattle.tz_zone.proofs.EmptyLists.{none_if_empty}
 use Rattle.tz_zone.proofs.LeapTimes.{instant_bounds}
 use Rattle.tz_zone.proofs.SegmentTypes.{match_none}

@@ -1,8 +1,5 @@
 -- Before a truncated start the clock has no type, and none once leap times have left 64 bits.
-use Rattle.std.proofs.Common.{rules}
-use Rattle.std.proofs.lemmas.Int.{to_z-of_z}
-use mir.Syntax.{w64}
-use Rattle.tz_zone.specs.ZoneOfData.{zone_of_data}
+use Rattle.tz_zone.proofs.Common.{to_z-of_z, rules, w64, zone_of_data}
 use Rattle.tz_zone.proofs.RuleChanges.{none_before_start, none_after_end}
 use Rattle.tz_zone.proofs.SegmentTypes.{match_none}
 use Rattle.tz_zone.proofs.clock.changes.first_position.Goals as goal

@@ -1,11 +1,5 @@
 -- The change of the rule is that of a clock without transitions.
-use Rattle.std.proofs.Common.{◌∙◌, refl, sym, ap, rules, option_map}
-use Rattle.std.proofs.lemmas.Int.{to_z-of_z}
-use mir.Syntax.{w64}
-use Rattle.tz_rule.specs.RuleChanges.{type_change_of}
-use Rattle.tz_rule.specs.RuleRef.{rule_seen}
-use Rattle.tz_zone.specs.Table.{without_transitions}
-use Rattle.tz_zone.specs.ZoneOfData.{zone_of_data}
+use Rattle.tz_zone.proofs.Common.{to_z-of_z, rules, w64, refl, sym, ◌∙◌, ap, zone_of_data, rule_seen, option_map, without_transitions, type_change_of}
 use Rattle.tz_zone.proofs.ChangeSpans.{following_of_rule, no_following_of_rule}
 use Rattle.tz_zone.proofs.SegmentTypes.{match_none}
 use Rattle.tz_zone.proofs.clock.changes.following_by_rule.Goals as goal

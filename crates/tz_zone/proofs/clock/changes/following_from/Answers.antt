@@ -1,15 +1,5 @@
 -- From position to position, to the first change or to the last transition, and then by the rule.
-use Rattle.std.proofs.Common.{◌≤◌, ℕ, refl, subst, arith, rules, ℤ, pos, negsuc, ◌-ℤ◌, ◌<ℤ◌, length}
-use Rattle.std.proofs.lemmas.Int.{ints, to_z-of_z}
-use Rattle.std.proofs.lemmas.Option.{slice_get_read}
-use mir.Syntax.{w64}
-use mir.Val.{SFits, to_z}
-use Rattle.tz_zone.specs.ClockSegments.{IsReachedAt}
-use Rattle.tz_zone.specs.Changes.{change_of, HasNoChange}
-use Rattle.tz_zone.specs.Clock.{IsClock}
-use Rattle.tz_zone.specs.Runs.{LiesAt}
-use Rattle.tz_zone.specs.Table.{Zone}
-use Rattle.tz_zone.specs.ZoneOfData.{zone_of_data}
+use Rattle.tz_zone.proofs.Common.{arith, to_z-of_z, ℕ, rules, ints, w64, refl, length, ℤ, subst, ◌<ℤ◌, pos, zone_of_data, ◌-ℤ◌, ◌≤◌, Zone, SFits, negsuc, slice_get_read, to_z, IsReachedAt, IsClock, change_of, HasNoChange, LiesAt}
 use Rattle.tz_zone.proofs.LeapTimes.{instant_bounds}
 use Rattle.tz_zone.proofs.Positions.{clock_at_position}
 use Rattle.tz_zone.proofs.SegmentTypes.{match_none}

@@ -1,7 +1,5 @@
 -- The walk has come to an instant that lies at the position.
-use Rattle.std.proofs.Common.{◌-◌, length}
-use Rattle.tz_zone.specs.Runs.{IsWalkedUp}
-use Rattle.tz_zone.specs.ZoneOfData.{zone_of_data}
+use Rattle.tz_zone.proofs.Common.{length, zone_of_data, ◌-◌, IsWalkedUp}
 use Rattle.tz_zone.proofs.clock.changes.following_from.Given as goal
 
 abbrev pub invariant-loop-position : goal.invariant-loop-position

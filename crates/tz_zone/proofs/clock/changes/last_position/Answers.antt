@@ -1,9 +1,5 @@
 -- Once leap times have left 64 bits the clock has no type, and none before a truncated start.
-use Rattle.std.proofs.Common.{◌≡◌, arith, rules, ℤ, pos, negsuc, ◌-ℤ◌, ◌<ℤ◌}
-use Rattle.std.proofs.lemmas.Int.{ints, to_z-of_z}
-use mir.Syntax.{w64}
-use mir.Val.{SFits, to_z, of_z}
-use Rattle.tz_zone.specs.ZoneOfData.{zone_of_data}
+use Rattle.tz_zone.proofs.Common.{◌≡◌, arith, to_z-of_z, rules, ints, w64, ℤ, ◌<ℤ◌, pos, zone_of_data, ◌-ℤ◌, SFits, negsuc, to_z, of_z}
 use Rattle.tz_zone.proofs.RuleChanges.{none_past_last, none_up_to_start}
 use Rattle.tz_zone.proofs.SegmentTypes.{match_none}
 use Rattle.tz_zone.proofs.clock.changes.last_position.Goals as goal

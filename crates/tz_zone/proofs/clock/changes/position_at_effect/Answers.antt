@@ -1,10 +1,6 @@
 -- Without leap seconds no other transition takes effect there; with some those that the loop passes are reached, and
 -- the next one is ahead.
-use Rattle.std.proofs.Common.{◌≤ℤ◌, ◌<ℤ◌, refl, arith, rules}
-use Rattle.std.proofs.lemmas.Int.{ints, to_z-of_z}
-use Rattle.std.proofs.lemmas.Option.{slice_get_read, slice_get_within}
-use mir.Syntax.{w64}
-use Rattle.tz_zone.specs.ZoneOfData.{zone_of_data}
+use Rattle.tz_zone.proofs.Common.{arith, to_z-of_z, rules, ints, w64, refl, ◌≤ℤ◌, ◌<ℤ◌, zone_of_data, slice_get_within, slice_get_read}
 use Rattle.tz_zone.proofs.EmptyLists.{none_if_empty}
 use Rattle.tz_zone.proofs.LeapTimes.{one_leap_time}
 use Rattle.tz_zone.proofs.PositionRuns.{plain_position}

@@ -1,6 +1,5 @@
 -- The transitions so far are reached at the effect.
-use Rattle.std.proofs.Common.{◌-◌, ◌<◌, ◌≤◌, length}
-use Rattle.tz_zone.specs.Clock.{AreReached}
+use Rattle.tz_zone.proofs.Common.{length, ◌<◌, ◌-◌, ◌≤◌, AreReached}
 use Rattle.tz_zone.proofs.clock.changes.position_at_effect.Given as goal
 
 abbrev pub invariant-loop-position : goal.invariant-loop-position

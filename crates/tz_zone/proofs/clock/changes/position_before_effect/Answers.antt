@@ -1,11 +1,5 @@
 -- Before the effect the transition is ahead, and so are those that the loop passes. The one before them is reached.
-use Rattle.std.proofs.Common.{◌≡◌, ◌-◌, ◌<◌, ℕ, ◌≤ℤ◌, ◌<ℤ◌, refl, subst, arith, rules, ℤ, pos, negsuc, ◌-ℤ◌, length}
-use Rattle.std.proofs.lemmas.Int.{ints, by_lt_z, to_z-of_z}
-use Rattle.std.proofs.lemmas.Option.{slice_get_read}
-use mir.Syntax.{w64}
-use mir.Val.{SFits, to_z, of_z}
-use Rattle.tz_zone.specs.Clock.{AreReached}
-use Rattle.tz_zone.specs.ZoneOfData.{zone_of_data}
+use Rattle.tz_zone.proofs.Common.{◌≡◌, arith, to_z-of_z, ℕ, rules, ints, w64, refl, length, ℤ, subst, ◌<◌, ◌≤ℤ◌, ◌<ℤ◌, pos, zone_of_data, ◌-ℤ◌, ◌-◌, SFits, by_lt_z, negsuc, slice_get_read, to_z, of_z, AreReached}
 use Rattle.tz_zone.proofs.RisingTimes.{rising, ahead_from, reached_through}
 use Rattle.tz_zone.proofs.SegmentTypes.{match_none}
 use Rattle.tz_zone.proofs.clock.changes.position_before_effect.Goals as goal

@@ -1,6 +1,5 @@
 -- The transitions from the position on are ahead at the instant before the effect.
-use Rattle.std.proofs.Common.{◌≤◌}
-use Rattle.tz_zone.specs.Clock.{AreAhead}
+use Rattle.tz_zone.proofs.Common.{◌≤◌, AreAhead}
 use Rattle.tz_zone.proofs.clock.changes.position_before_effect.Given as goal
 
 abbrev pub invariant-loop-position : goal.invariant-loop-position

@@ -1,13 +1,5 @@
 -- From the seam on the changes are those of the rule.
-use Rattle.std.proofs.Common.{◌≡◌, ℕ, ◌-◌, ◌<◌, refl, subst, arith, rules, pos, ◌+ℤ◌, length, Some}
-use Rattle.std.specs.Prelude.{slice_get}
-use Rattle.std.proofs.lemmas.Int.{ints, to_z-of_z}
-use Rattle.std.proofs.lemmas.Option.{slice_get_read}
-use mir.Syntax.{w64}
-use Rattle.tz_zone.specs.Changes.{change_of}
-use Rattle.tz_zone.specs.ClockSegments.{IsReachedAt}
-use Rattle.tz_zone.specs.Runs.{IsSeam}
-use Rattle.tz_zone.specs.ZoneOfData.{zone_of_data}
+use Rattle.tz_zone.proofs.Common.{◌≡◌, arith, to_z-of_z, ℕ, rules, ints, w64, refl, length, subst, ◌<◌, Some, pos, zone_of_data, ◌-◌, ◌+ℤ◌, slice_get, slice_get_read, IsReachedAt, change_of, IsSeam}
 use Rattle.tz_zone.proofs.LeapTimes.{instant_bounds}
 use Rattle.tz_zone.proofs.RuleChanges.{at_seam, seam_up_to, preceding_from_rule, none_from_rule, none_after_found}
 use Rattle.tz_zone.proofs.SegmentTypes.{match_none}

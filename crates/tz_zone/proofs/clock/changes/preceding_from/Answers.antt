@@ -1,11 +1,5 @@
 -- By the rule, and then from position to position, to the last change or to the first instant that has a leap time.
-use Rattle.std.proofs.Common.{◌≡◌, ℕ, subst, arith, rules, pos, negsuc, ◌+ℤ◌, ◌-ℤ◌, ◌<ℤ◌}
-use Rattle.std.proofs.lemmas.Int.{ints, to_z-of_z}
-use mir.Syntax.{w64}
-use mir.Val.{SFits}
-use Rattle.tz_zone.specs.ClockSegments.{IsReachedAt}
-use Rattle.tz_zone.specs.Changes.{change_of}
-use Rattle.tz_zone.specs.ZoneOfData.{zone_of_data}
+use Rattle.tz_zone.proofs.Common.{◌≡◌, arith, to_z-of_z, ℕ, rules, ints, w64, subst, ◌<ℤ◌, pos, zone_of_data, ◌-ℤ◌, ◌+ℤ◌, SFits, negsuc, IsReachedAt, change_of}
 use Rattle.tz_zone.proofs.LeapTimes.{instant_bounds}
 use Rattle.tz_zone.proofs.SegmentTypes.{match_none}
 use Rattle.tz_zone.proofs.ChangeSpans.{none_back, none_joined, none_from_start, is_preceding, preceding_earlier}

@@ -1,7 +1,5 @@
 -- The walk has come to an instant that lies at the position. After all transitions no change is left after the seam.
-use Rattle.std.proofs.Common.{ℤ}
-use Rattle.tz_zone.specs.Runs.{IsWalkedDown, HasNoneAfterSeam}
-use Rattle.tz_zone.specs.ZoneOfData.{zone_of_data}
+use Rattle.tz_zone.proofs.Common.{ℤ, zone_of_data, HasNoneAfterSeam, IsWalkedDown}
 use Rattle.tz_zone.proofs.clock.changes.preceding_from.Given as goal
 
 abbrev pub invariant-loop-position : goal.invariant-loop-position

@@ -1,8 +1,5 @@
 -- The transition before the run is reached at each instant of the position.
-use Rattle.std.proofs.Common.{◌-◌, refl, arith, rules}
-use Rattle.std.proofs.lemmas.Int.{to_z-of_z}
-use Rattle.std.proofs.lemmas.Option.{slice_get_read}
-use mir.Syntax.{w64}
+use Rattle.tz_zone.proofs.Common.{arith, to_z-of_z, rules, w64, refl, ◌-◌, slice_get_read}
 use Rattle.tz_zone.proofs.clock.changes.run_start.Goals as goal
 
 pub effect_of_reached-effect-requires-clause-reached : goal.effect_of_reached-effect-requires-clause-reached

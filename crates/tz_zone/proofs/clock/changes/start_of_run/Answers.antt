@@ -1,10 +1,5 @@
 -- The type at the position before is that of the transition before it.
-use Rattle.std.proofs.Common.{◌∙◌, ◌-◌, ℕ, refl, sym, subst, arith}
-use Rattle.std.proofs.lemmas.Option.{slice_get_read}
-use Rattle.tz_rule.specs.LocalTimeType.{LocalTimeType}
-use Rattle.tz_rule.specs.Same.{Decides-same_type}
-use Rattle.tz_zone.specs.Clock.{IsTypeAt, IsTypeOfLast}
-use Rattle.tz_zone.specs.ZoneOfData.{zone_of_data}
+use Rattle.tz_zone.proofs.Common.{arith, ℕ, refl, sym, ◌∙◌, subst, zone_of_data, ◌-◌, LocalTimeType, slice_get_read, IsTypeOfLast, IsTypeAt, Decides-same_type}
 use Rattle.tz_zone.proofs.PositionRuns.{type_after, types_back}
 use Rattle.tz_zone.proofs.clock.changes.start_of_run.Goals as goal
 

@@ -1,7 +1,5 @@
 -- All positions so far have the type.
-use Rattle.std.proofs.Common.{ℕ, ◌<◌, ◌≤◌}
-use Rattle.tz_zone.specs.Clock.{IsTypeOfLast}
-use Rattle.tz_zone.specs.ZoneOfData.{zone_of_data}
+use Rattle.tz_zone.proofs.Common.{ℕ, ◌<◌, zone_of_data, ◌≤◌, IsTypeOfLast}
 use Rattle.tz_zone.proofs.clock.changes.start_of_run.Given as goal
 
 abbrev pub invariant-loop-start : goal.invariant-loop-start

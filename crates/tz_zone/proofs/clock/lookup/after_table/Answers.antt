@@ -1,16 +1,6 @@
 -- A rule has the types after the table, whether there are transitions or not.
-use Rattle.std.proofs.Common.{◌≡◌, ◌∙◌, sym, ap, rules, ℤ, Bool, true, false, Option, Some, option_map}
-use Rattle.std.proofs.lemmas.Int.{to_z-of_z}
-use Rattle.std.specs.Borrow.{Bor}
-use Rattle.std.specs.Prelude.{MatchBool, MatchOption}
-use mir.Syntax.{w64}
-use Rattle.tz_rule.specs.LocalTimeType.{LocalTimeType}
-use Rattle.tz_rule.specs.Rule.{IsRuleType}
-use Rattle.tz_rule.specs.RuleRef.{rule_seen}
-use Rattle.tz_rule.specs.declared.timezone.transition_rule.TransitionRule.{TransitionRule}
-use Rattle.tz_zone.specs.Clock.{IsTypeAfter, IsTypeWithout}
-use Rattle.tz_zone.specs.Table.{Zone}
-use Rattle.tz_zone.specs.ZoneOfData.{zone_of_data}
+use Rattle.tz_zone.proofs.Common.{◌≡◌, to_z-of_z, rules, w64, sym, ℤ, ◌∙◌, ap, Some, zone_of_data, LocalTimeType, Zone, Option, false, true, Bool, TransitionRule, MatchOption, IsTypeWithout, IsRuleType, IsTypeAfter, rule_seen, Bor, option_map}
+use Rattle.std.specs.Prelude.{MatchBool}
 use Rattle.tz_zone.proofs.clock.lookup.after_table.Goals as goal
 
 by_rule : (z : Zone) (is_empty : Bool) (o : Option TransitionRule) (rule : TransitionRule) → o ≡ Some rule → (v : ℤ)

@@ -1,13 +1,7 @@
 -- At a position before the last transition the transition before it has the type, and after it the rule.
-use Rattle.std.proofs.Common.{◌≡◌, ◌<◌, ℕ, arith, subst, length}
-use Rattle.std.proofs.lemmas.Int.{to_z-of_z}
-use mir.Syntax.{w64}
-use Rattle.tz_zone.specs.ClockSegments.{IsReachedAt}
-use Rattle.tz_zone.specs.ZoneOfData.{zone_of_data}
+use Rattle.tz_zone.proofs.Common.{◌≡◌, arith, to_z-of_z, ℕ, w64, length, subst, ◌<◌, zone_of_data, IsReachedAt}
 use Rattle.tz_zone.proofs.Positions.{clock_at_position, clock_after_table, fault_after_table}
-use Rattle.tz_zone.proofs.clock.lookup.find_local_time_type.Goals.{After-after_table}
-use Rattle.tz_zone.proofs.clock.lookup.find_local_time_type.Goals.{then-count-gt0+in-Some+else-position-count}
-use Rattle.tz_zone.proofs.clock.lookup.find_local_time_type.Goals.{else-count-gt0}
+use Rattle.tz_zone.proofs.clock.lookup.find_local_time_type.Goals.{After-after_table, then-count-gt0+in-Some+else-position-count, else-count-gt0}
 use Rattle.tz_zone.proofs.clock.lookup.find_local_time_type.Goals as goal
 
 pub returns-then-position-count-clause-ok : goal.returns-then-position-count-clause-ok

@@ -1,9 +1,5 @@
 -- Before the last transition the type is that of the one before the position; from there on it is the rule's.
-use Rattle.std.proofs.Common.{ℕ, subst, arith}
-use Rattle.std.proofs.lemmas.Int.{to_z-of_z}
-use mir.Syntax.{w64}
-use Rattle.tz_zone.specs.ClockSegments.{IsReachedAt}
-use Rattle.tz_zone.specs.ZoneOfData.{zone_of_data}
+use Rattle.tz_zone.proofs.Common.{arith, to_z-of_z, ℕ, w64, subst, zone_of_data, IsReachedAt}
 use Rattle.tz_zone.proofs.PositionRuns.{types_from_last}
 use Rattle.tz_zone.proofs.clock.lookup.type_at.Goals as goal
 

@@ -1,5 +1,5 @@
 -- The transition before the position has a type of the zone.
-use Rattle.tz_zone.specs.ZoneOfData.{zone_of_data}
+use Rattle.tz_zone.proofs.Common.{zone_of_data}
 use Rattle.tz_zone.proofs.Positions.{names_type, type_of_before}
 use Rattle.tz_zone.proofs.clock.lookup.type_before.Goals as goal
 

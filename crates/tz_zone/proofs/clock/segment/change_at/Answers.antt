@@ -1,11 +1,5 @@
 -- There is a change where both types are there and differ.
-use Rattle.std.proofs.Common.{◌≡◌, ◌∙◌, sym, ap}
-use Rattle.std.proofs.lemmas.Bool.{false≢true}
-use Rattle.std.proofs.lemmas.Int.{to_z-of_z}
-use Rattle.std.proofs.lemmas.Option.{MatchOption-at_some}
-use mir.Syntax.{w64}
-use Rattle.tz_rule.specs.Same.{Decides-same_type}
-use Rattle.tz_zone.specs.Changes.{Change}
+use Rattle.tz_zone.proofs.Common.{◌≡◌, to_z-of_z, w64, sym, ◌∙◌, ap, false≢true, Change, Decides-same_type, MatchOption-at_some}
 use Rattle.tz_zone.proofs.LeapTimes.{instant_bounds}
 use Rattle.tz_zone.proofs.SegmentTypes.{match_none, no_change_from_none, no_change_to_none, no_change_of_same}
 use Rattle.tz_zone.proofs.clock.segment.change_at.Goals as goal

@@ -1,8 +1,5 @@
 -- Where instants have no leap time a zone with transitions has no type.
-use Rattle.std.proofs.Common.{◌≢◌, ◌∙◌, inl, inr, ap, [], length}
-use Rattle.std.proofs.lemmas.Int.{to_z-of_z}
-use mir.Syntax.{w64}
-use Rattle.tz_zone.specs.ZoneOfData.{zone_of_data}
+use Rattle.tz_zone.proofs.Common.{to_z-of_z, w64, inr, inl, length, ◌∙◌, ap, zone_of_data, [], ◌≢◌}
 use Rattle.tz_zone.proofs.SegmentTypes.{match_none}
 use Rattle.tz_zone.proofs.InstantsWithLeapTime.{no_type_refused}
 use Rattle.tz_zone.proofs.clock.segment.clock_segment_at.Goals as goal

@@ -1,9 +1,5 @@
 -- Right after the last instant that has a leap time none has one.
-use Rattle.std.proofs.Common.{◌≡◌, refl, arith, rules, inr, ℤ, pos, ◌+ℤ◌, ◌≤ℤ◌, ◌<ℤ◌}
-use Rattle.std.proofs.lemmas.Int.{ints, to_z-of_z}
-use mir.Syntax.{w64}
-use mir.Val.{SFits, to_z, of_z}
-use Rattle.tz_zone.specs.LeapTime.{IsPastInstants}
+use Rattle.tz_zone.proofs.Common.{◌≡◌, arith, to_z-of_z, rules, ints, w64, refl, inr, ℤ, ◌≤ℤ◌, ◌<ℤ◌, pos, ◌+ℤ◌, SFits, to_z, of_z, IsPastInstants}
 use Rattle.tz_zone.proofs.LeapTimes.{IsInstant-from_bounds, instant_bounds, past_later}
 use Rattle.tz_zone.proofs.LeapReached.{after_last, last_is_far, past_if_begun}
 use Rattle.tz_zone.proofs.clock.segment.first_past.Goals as goal

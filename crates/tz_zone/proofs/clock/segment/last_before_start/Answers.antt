@@ -1,10 +1,5 @@
 -- The second before the first instant that is not before the start, which comes later.
-use Rattle.std.proofs.Common.{◌≡◌, arith, rules, List, ℤ, pos, ◌+ℤ◌, ◌-ℤ◌, ◌≤ℤ◌, ◌<ℤ◌}
-use Rattle.std.proofs.lemmas.Int.{ints, by_lt_z, to_z-of_z}
-use mir.Syntax.{w64}
-use mir.Val.{SFits}
-use Rattle.tz_zone.specs.Table.{LeapSecond}
-use Rattle.tz_zone.specs.LeapTime.{IsBeforeStart}
+use Rattle.tz_zone.proofs.Common.{◌≡◌, arith, to_z-of_z, rules, ints, w64, ℤ, List, ◌≤ℤ◌, ◌<ℤ◌, pos, ◌-ℤ◌, ◌+ℤ◌, SFits, by_lt_z, LeapSecond, IsBeforeStart}
 use Rattle.tz_zone.proofs.LeapTimes.{IsInstant-from_bounds, instant_bounds}
 use Rattle.tz_zone.proofs.clock.segment.last_before_start.Goals as goal
 

@@ -1,11 +1,5 @@
 -- Between two transitions from the start of the one up to the last instant before the other.
-use Rattle.std.proofs.Common.{◌≡◌, arith, rules, Some, length}
-use Rattle.std.specs.Prelude.{slice_get}
-use Rattle.std.proofs.lemmas.Int.{ints, to_z-of_z}
-use Rattle.std.proofs.lemmas.Option.{slice_get_within}
-use mir.Syntax.{w64}
-use mir.Val.{SFits}
-use Rattle.tz_zone.specs.ZoneOfData.{zone_of_data}
+use Rattle.tz_zone.proofs.Common.{◌≡◌, arith, to_z-of_z, rules, ints, w64, length, Some, zone_of_data, SFits, slice_get, slice_get_within}
 use Rattle.tz_zone.proofs.LeapTimes.{instant_bounds}
 use Rattle.tz_zone.proofs.LeapReached.{up_to_last_before}
 use Rattle.tz_zone.proofs.Positions.{clock_at_position, names_type, not_reached, type_of_before}

@@ -1,16 +1,6 @@
 -- From the later one of the last transition's start and of the rule's segment on, up to the rule's end, as long as
 -- there are leap times.
-use Rattle.std.proofs.Common.{◌≡◌, ◌≢◌, ◌⊎◌, inl, inr, subst, arith, rules, ℤ, pos, ◌+ℤ◌, ◌≤ℤ◌, ◌<ℤ◌, List, Option}
-use Rattle.std.proofs.Common.{negsuc}
-use Rattle.std.specs.Int.{int_max}
-use Rattle.std.proofs.lemmas.Int.{ints, by_lt_z, to_z-of_z}
-use mir.Syntax.{w64}
-use mir.Val.{SFits}
-use Rattle.tz_rule.specs.declared.timezone.transition_rule.TransitionRule.{TransitionRule}
-use Rattle.tz_zone.specs.Table.{LeapSecond}
-use Rattle.tz_zone.specs.LeapTime.{IsPastInstants, IsWideEffect}
-use Rattle.tz_zone.specs.ZoneOfData.{zone_of_data}
-use Rattle.tz_zone.specs.TableChanges.{IsChangeByRule}
+use Rattle.tz_zone.proofs.Common.{◌≡◌, arith, to_z-of_z, rules, ints, w64, inr, inl, ℤ, subst, List, ◌≤ℤ◌, ◌<ℤ◌, pos, zone_of_data, ◌+ℤ◌, SFits, Option, by_lt_z, negsuc, LeapSecond, ◌≢◌, ◌⊎◌, IsWideEffect, TransitionRule, IsPastInstants, int_max, IsChangeByRule}
 use Rattle.tz_zone.proofs.OffsetBounds.{int_max_either}
 use Rattle.tz_zone.proofs.LeapTimes.{instant_bounds}
 use Rattle.tz_zone.proofs.LeapReached.{up_to_last, reached_since}

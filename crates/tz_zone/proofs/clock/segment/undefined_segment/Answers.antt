@@ -1,8 +1,5 @@
 -- After an instant that has no leap time, and is not before a truncated start, none has one.
-use Rattle.std.proofs.Common.{◌≡◌, arith, pos, ◌+ℤ◌, ◌-ℤ◌, rules}
-use Rattle.std.proofs.lemmas.Int.{ints, by_lt_z, to_z-of_z}
-use mir.Syntax.{w64}
-use mir.Val.{SFits}
+use Rattle.tz_zone.proofs.Common.{◌≡◌, arith, to_z-of_z, rules, ints, w64, pos, ◌-ℤ◌, ◌+ℤ◌, SFits, by_lt_z}
 use Rattle.tz_zone.proofs.LeapTimes.{instant_bounds}
 use Rattle.tz_zone.proofs.clock.segment.undefined_segment.Goals as goal
 

@@ -1,10 +1,5 @@
 -- Before a truncated start the clock has no type, and none once leap times have left 64 bits.
-use Rattle.std.proofs.Common.{inl, rules}
-use Rattle.std.proofs.lemmas.Int.{by_lt_z, to_z-of_z}
-use Rattle.std.proofs.lemmas.Option.{MatchOption-at_none}
-use mir.Syntax.{w64}
-use mir.Val.{SFits}
-use Rattle.tz_zone.specs.ZoneOfData.{zone_of_data}
+use Rattle.tz_zone.proofs.Common.{to_z-of_z, rules, w64, inl, zone_of_data, SFits, by_lt_z, MatchOption-at_none}
 use Rattle.tz_zone.proofs.SegmentTypes.{match_none}
 use Rattle.tz_zone.proofs.InstantsWithLeapTime.{no_type_refused, past_from}
 use Rattle.tz_zone.proofs.clock.window_types.first_stage.Goals as goal

@@ -1,8 +1,5 @@
 -- The segment around the instant holds all up to the other one.
-use Rattle.std.proofs.Common.{arith, rules, ℤ, ◌≤ℤ◌, Option, Some, None}
-use Rattle.std.specs.Prelude.{IfSome, MatchOption}
-use Rattle.std.proofs.lemmas.Int.{ints, to_z-of_z}
-use mir.Syntax.{w64}
+use Rattle.tz_zone.proofs.Common.{arith, to_z-of_z, rules, ints, w64, ℤ, ◌≤ℤ◌, Some, Option, None, MatchOption, IfSome}
 use Rattle.tz_zone.proofs.clock.window_types.type_through.Goals as goal
 
 -- what holds of an option at each instant

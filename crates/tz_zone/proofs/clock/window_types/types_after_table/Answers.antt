@@ -1,7 +1,5 @@
 -- The segment after the table around the first instant holds the window, or ends in it.
-use Rattle.std.proofs.Common.{arith, rules, pos, ◌+ℤ◌, ◌≤ℤ◌, ◌<ℤ◌}
-use Rattle.std.proofs.lemmas.Int.{ints, to_z-of_z}
-use mir.Syntax.{w64}
+use Rattle.tz_zone.proofs.Common.{arith, to_z-of_z, rules, ints, w64, ◌≤ℤ◌, ◌<ℤ◌, pos, ◌+ℤ◌}
 use Rattle.tz_zone.proofs.clock.window_types.types_after_table.Goals as goal
 
 pub returns-then-high-first-clause-types : goal.returns-then-high-first-clause-types

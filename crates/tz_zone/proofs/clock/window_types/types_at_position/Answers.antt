@@ -1,13 +1,6 @@
 -- The next transition ends the window's first type, and the one after it the second.
-use Rattle.std.proofs.Common.{◌≡◌, ◌+◌, arith, rules, ◌≤ℤ◌, ◌<ℤ◌, Some}
-use Rattle.std.specs.Prelude.{slice_get}
-use Rattle.std.proofs.lemmas.Bool.{OnTrue_at}
-use Rattle.std.proofs.lemmas.Int.{ints, to_z-of_z}
-use mir.Syntax.{w64}
-use Rattle.tz_zone.specs.LeapTime.{IsWideEffect}
-use Rattle.tz_zone.specs.ZoneOfData.{zone_of_data}
-use Rattle.tz_zone.proofs.Positions.{reached_at, one_type, type_while_before, jump_above, jump_up_to, type_before_jump}
-use Rattle.tz_zone.proofs.Positions.{type_from_jump}
+use Rattle.tz_zone.proofs.Common.{◌≡◌, arith, to_z-of_z, rules, ints, w64, ◌≤ℤ◌, Some, ◌<ℤ◌, zone_of_data, ◌+◌, slice_get, IsWideEffect, OnTrue_at}
+use Rattle.tz_zone.proofs.Positions.{reached_at, one_type, type_while_before, jump_above, jump_up_to, type_before_jump, type_from_jump}
 use Rattle.tz_zone.proofs.LeapTimes.{instant_bounds}
 use Rattle.tz_zone.proofs.clock.window_types.types_at_position.Goals as goal
 

@@ -1,15 +1,5 @@
 -- After the table the types are those of the rule, or of the first type where there are no transitions.
-use Rattle.std.proofs.Common.{◌≡◌, ◌+◌, ◌^◌, ◌<◌, ◌≤◌, ℕ, ℤ, ◌≤ℤ◌, Some, length, eqb, refl, ap, sym, subst, arith}
-use Rattle.std.proofs.Common.{rules}
-use Rattle.std.specs.Prelude.{MatchOption}
-use Rattle.std.proofs.lemmas.Int.{to_z-of_z}
-use Rattle.std.proofs.lemmas.List.{nil_from_length}
-use mir.Syntax.{w64}
-use Rattle.tz_rule.specs.LocalTimeType.{LocalTimeType}
-use Rattle.tz_zone.specs.Clock.{IsClock, IsTypeAfterTable}
-use Rattle.tz_zone.specs.ClockSegments.{IsReachedAt}
-use Rattle.tz_zone.specs.WindowTypes.{IsPositionOf}
-use Rattle.tz_zone.specs.ZoneOfData.{zone_of_data}
+use Rattle.tz_zone.proofs.Common.{◌≡◌, arith, to_z-of_z, ℕ, rules, w64, refl, sym, length, ℤ, subst, ◌<◌, ap, ◌≤ℤ◌, Some, zone_of_data, ◌≤◌, LocalTimeType, ◌+◌, IsReachedAt, IsClock, eqb, MatchOption, nil_from_length, ◌^◌, IsTypeAfterTable, IsPositionOf}
 use Rattle.tz_zone.proofs.Positions.{reached_at, clock_after_table, position_through}
 use Rattle.tz_zone.proofs.WindowTypes.{more_weaker, types_weaker}
 use Rattle.tz_zone.proofs.clock.window_types.window_types.Goals.{

@@ -1,7 +1,5 @@
 -- The leap second at the index is not reached.
-use Rattle.std.proofs.Common.{◌<◌, ◌≤◌, length}
-use Rattle.tz_zone.specs.Table.{LeapSecond}
-use Rattle.tz_zone.specs.LeapTime.{IsReached}
+use Rattle.tz_zone.proofs.Common.{length, ◌<◌, ◌≤◌, LeapSecond, IsReached}
 use Rattle.tz_zone.proofs.leap.leap_time.after_last_reached.Given as goal
 
 abbrev pub invariant-loop-index : goal.invariant-loop-index

@@ -1,9 +1,5 @@
 -- The wide effect is the effect, unless it lies past 64 bits or has no leap time.
-use Rattle.std.proofs.Common.{refl, sym, rules}
-use Rattle.std.proofs.lemmas.Int.{to_z-of_z}
-use mir.Syntax.{w64, w128}
-use mir.Val.{SFits}
-use Rattle.tz_zone.specs.LeapTime.{IsWideEffect}
+use Rattle.tz_zone.proofs.Common.{to_z-of_z, rules, w64, refl, sym, SFits, IsWideEffect, w128}
 use Rattle.tz_zone.proofs.LeapAnswers.{effect_none, effect_refused, effect_found}
 use Rattle.tz_zone.proofs.leap.leap_time.effect.Goals.{In-Ok}
 use Rattle.tz_zone.proofs.leap.leap_time.effect.Goals as goal

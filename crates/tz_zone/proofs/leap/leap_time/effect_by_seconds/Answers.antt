@@ -1,9 +1,5 @@
 -- What is reached is so from the wide effect on, unless that lies past the last instant with a leap time.
-use Rattle.std.proofs.Common.{sym, arith, rules, inr, ◌≤ℤ◌}
-use Rattle.std.proofs.lemmas.Int.{ints, to_z-of_z}
-use mir.Syntax.{w64, w128}
-use mir.Val.{SFits}
-use Rattle.tz_zone.specs.LeapTime.{IsWideEffect}
+use Rattle.tz_zone.proofs.Common.{arith, to_z-of_z, rules, ints, w64, sym, inr, ◌≤ℤ◌, SFits, IsWideEffect, w128}
 use Rattle.tz_zone.proofs.LeapTimes.{IsInstant-from_bounds, past_later}
 use Rattle.tz_zone.proofs.LeapReached.{past_if_begun}
 use Rattle.tz_zone.proofs.leap.leap_time.effect_by_seconds.Goals.{In-Ok}

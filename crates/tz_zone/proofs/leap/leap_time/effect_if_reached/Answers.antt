@@ -1,6 +1,5 @@
 -- Without leap seconds each leap time is its own effect.
-use Rattle.std.proofs.lemmas.Int.{to_z-of_z}
-use mir.Syntax.{w64}
+use Rattle.tz_zone.proofs.Common.{to_z-of_z, w64}
 use Rattle.tz_zone.proofs.EmptyLists.{none_if_empty}
 use Rattle.tz_zone.proofs.LeapTimes.{instant_bounds}
 use Rattle.tz_zone.proofs.InstantsWithLeapTime.{plain_effect, plain_leap}

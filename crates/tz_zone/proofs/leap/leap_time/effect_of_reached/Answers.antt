@@ -1,8 +1,5 @@
 -- The effect of what is reached at an instant is no later, so it is one of 64 bits.
-use Rattle.std.proofs.Common.{◌≡◌, [], arith, rules}
-use Rattle.std.proofs.lemmas.Int.{ints, to_z-of_z}
-use mir.Syntax.{w64, w128}
-use Rattle.tz_zone.specs.LeapTime.{IsInstant, IsWideEffect}
+use Rattle.tz_zone.proofs.Common.{◌≡◌, arith, to_z-of_z, rules, ints, w64, [], IsWideEffect, IsInstant, w128}
 use Rattle.tz_zone.proofs.EmptyLists.{none_if_empty}
 use Rattle.tz_zone.proofs.LeapTimes.{IsInstant-from_bounds, instant_bounds}
 use Rattle.tz_zone.proofs.InstantsWithLeapTime.{plain_effect}

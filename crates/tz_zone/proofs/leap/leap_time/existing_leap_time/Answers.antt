@@ -1,9 +1,5 @@
 -- The correction of the last leap second reached gives the leap time, which is one of 64 bits.
-use Rattle.std.proofs.Common.{◌≡◌, arith, ◌+ℤ◌}
-use Rattle.std.proofs.lemmas.Int.{ints, to_z-of_z}
-use mir.Syntax.{w64}
-use mir.Val.{to_z, of_z}
-use Rattle.tz_zone.specs.LeapTime.{correction_before}
+use Rattle.tz_zone.proofs.Common.{◌≡◌, arith, to_z-of_z, ints, w64, ◌+ℤ◌, to_z, of_z, correction_before}
 use Rattle.tz_zone.proofs.LeapLists.{IsReachedCount-from_items}
 use Rattle.tz_zone.proofs.LeapTimes.{leap_time_fits, IsLeapTime-from_count}
 use Rattle.tz_zone.proofs.leap.leap_time.existing_leap_time.Goals as goal

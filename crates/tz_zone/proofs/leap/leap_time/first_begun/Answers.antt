@@ -1,7 +1,5 @@
 -- An instant before the start comes before the first one that is not.
-use Rattle.std.proofs.Common.{sym, arith, rules, pos, ◌≤ℤ◌, ◌<ℤ◌}
-use Rattle.std.proofs.lemmas.Int.{ints, by_lt_z, to_z-of_z}
-use mir.Syntax.{w64, w128}
+use Rattle.tz_zone.proofs.Common.{arith, to_z-of_z, rules, ints, w64, sym, ◌≤ℤ◌, ◌<ℤ◌, pos, by_lt_z, w128}
 use Rattle.tz_zone.proofs.LeapTimes.{IsInstant-from_bounds, instant_bounds}
 use Rattle.tz_zone.proofs.leap.leap_time.first_begun.Goals as goal
 

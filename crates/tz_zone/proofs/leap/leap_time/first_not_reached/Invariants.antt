@@ -1,5 +1,5 @@
 -- The index stays within the list.
-use Rattle.std.proofs.Common.{◌-◌, ◌≤◌, length}
+use Rattle.tz_zone.proofs.Common.{length, ◌-◌, ◌≤◌}
 use Rattle.tz_zone.proofs.leap.leap_time.first_not_reached.Given as goal
 
 abbrev pub invariant-loop-index : goal.invariant-loop-index

@@ -1,11 +1,5 @@
 -- The comparison is the one that the definition makes, in numbers of 128 bits.
-use Rattle.std.proofs.Common.{refl, arith, sym, ◌∙◌, ap}
-use Rattle.std.proofs.lemmas.Int.{ints}
-use Rattle.std.proofs.lemmas.Option.{slice_get_read, same_Some, get_or_from_slice_get}
-use mir.Syntax.{w64, w128}
-use mir.Val.{SFits, to_z, of_z}
-use Rattle.tz_zone.specs.Table.{LeapSecond}
-use Rattle.tz_zone.specs.LeapTime.{IsReached}
+use Rattle.tz_zone.proofs.Common.{arith, ints, w64, refl, sym, ◌∙◌, ap, SFits, LeapSecond, slice_get_read, to_z, same_Some, of_z, w128, IsReached, get_or_from_slice_get}
 use Rattle.tz_zone.proofs.LeapAnswers.{by_comparison}
 use Rattle.tz_zone.proofs.leap.leap_time.is_reached.Goals as goal
 

@@ -1,8 +1,5 @@
 -- Without leap seconds it is the second before.
-use Rattle.std.proofs.Common.{◌≡◌, [], arith, rules, ℤ, pos, negsuc, ◌-ℤ◌, ◌≤ℤ◌, ◌<ℤ◌}
-use Rattle.std.proofs.lemmas.Int.{ints, to_z-of_z}
-use mir.Syntax.{w64}
-use mir.Val.{SFits}
+use Rattle.tz_zone.proofs.Common.{◌≡◌, arith, to_z-of_z, rules, ints, w64, ℤ, ◌≤ℤ◌, ◌<ℤ◌, pos, ◌-ℤ◌, [], SFits, negsuc}
 use Rattle.tz_zone.proofs.EmptyLists.{none_if_empty}
 use Rattle.tz_zone.proofs.LeapTimes.{IsInstant-from_bounds, instant_bounds}
 use Rattle.tz_zone.proofs.LeapReached.{not_least, plain_last_before}

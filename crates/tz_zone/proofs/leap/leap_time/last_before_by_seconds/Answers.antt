@@ -1,10 +1,5 @@
 -- The lesser of the second before the effect and the last instant that has a leap time.
-use Rattle.std.proofs.Common.{◌≡◌, ◌⊎◌, inl, inr, arith, rules, ℤ, pos, negsuc, ◌-ℤ◌, ◌≤ℤ◌, ◌<ℤ◌}
-use Rattle.std.specs.Int.{int_min}
-use Rattle.std.proofs.lemmas.Int.{ints, to_z-of_z}
-use mir.Syntax.{w64, w128}
-use mir.Val.{SFits, to_z, of_z}
-use Rattle.tz_zone.specs.LeapTime.{IsInstant}
+use Rattle.tz_zone.proofs.Common.{◌≡◌, arith, to_z-of_z, rules, ints, w64, inr, inl, ℤ, ◌≤ℤ◌, ◌<ℤ◌, pos, ◌-ℤ◌, SFits, negsuc, to_z, ◌⊎◌, of_z, IsInstant, w128, int_min}
 use Rattle.tz_zone.proofs.LeapTimes.{IsInstant-from_bounds}
 use Rattle.tz_zone.proofs.OffsetBounds.{int_min_either}
 use Rattle.tz_zone.proofs.InstantsWithLeapTime.{effect_ahead}

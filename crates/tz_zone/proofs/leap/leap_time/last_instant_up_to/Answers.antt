@@ -1,6 +1,5 @@
 -- Up to an instant that all tables reach none is past it.
-use Rattle.std.proofs.Common.{arith}
-use Rattle.std.proofs.lemmas.Int.{ints}
+use Rattle.tz_zone.proofs.Common.{arith, ints}
 use Rattle.tz_zone.proofs.LeapTimes.{not_past_within}
 use Rattle.tz_zone.proofs.leap.leap_time.last_instant_up_to.Goals as goal
 

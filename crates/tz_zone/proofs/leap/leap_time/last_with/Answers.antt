@@ -1,11 +1,5 @@
 -- The later one of the instant before the leap second is reached and of the last whose sum fits, but not past the end.
-use Rattle.std.proofs.Common.{◌≡◌, refl, inl, inr, arith, rules, ℤ, pos, negsuc, ◌-ℤ◌, ◌≤ℤ◌, ◌<ℤ◌, ◌⊎◌}
-use Rattle.std.specs.Int.{int_max, int_min}
-use Rattle.std.proofs.lemmas.Int.{ints, to_z-of_z}
-use Rattle.std.proofs.lemmas.Option.{slice_get_read}
-use mir.Syntax.{w32, w64, w128}
-use mir.Val.{SFits, to_z, of_z}
-use Rattle.tz_zone.specs.LeapTime.{correction_before}
+use Rattle.tz_zone.proofs.Common.{◌≡◌, arith, to_z-of_z, rules, ints, w64, refl, inr, inl, ℤ, ◌≤ℤ◌, ◌<ℤ◌, pos, ◌-ℤ◌, SFits, negsuc, slice_get_read, to_z, ◌⊎◌, of_z, w32, w128, correction_before, int_max, int_min}
 use Rattle.tz_zone.proofs.LeapTimes.{IsInstant-from_bounds, instant_bounds}
 use Rattle.tz_zone.proofs.OffsetBounds.{int_min_either, int_max_either}
 use Rattle.tz_zone.proofs.LeapEnds.{left_within, left_past}

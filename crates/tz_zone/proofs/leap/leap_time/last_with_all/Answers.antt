@@ -1,11 +1,5 @@
 -- Each leap second leaves the instants up to the last one so far, or fewer.
-use Rattle.std.proofs.Common.{inl, inr, subst, arith, rules, ℕ}
-use Rattle.std.proofs.lemmas.Int.{ints, by_lt_z, to_z-of_z}
-use Rattle.std.proofs.lemmas.Bool.{cases_lt}
-use Rattle.std.proofs.lemmas.Option.{slice_get_within}
-use mir.Syntax.{w64}
-use mir.Val.{to_z}
-use Rattle.tz_zone.specs.LeapTime.{IsReached}
+use Rattle.tz_zone.proofs.Common.{arith, to_z-of_z, ℕ, rules, ints, w64, inr, inl, subst, by_lt_z, slice_get_within, to_z, cases_lt, IsReached}
 use Rattle.tz_zone.proofs.leap.leap_time.last_with_all.Goals as goal
 
 pub loop-index-preserved : goal.loop-index-preserved

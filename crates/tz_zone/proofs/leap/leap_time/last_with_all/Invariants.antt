@@ -1,7 +1,5 @@
 -- The last instant that the leap seconds so far leave.
-use Rattle.std.proofs.Common.{ℕ, ℤ, ◌<◌, ◌+ℤ◌, ◌≤ℤ◌, ◌<ℤ◌}
-use Rattle.tz_zone.specs.Table.{LeapSecond}
-use Rattle.tz_zone.specs.LeapTime.{IsInstant, IsReached, IsPastInstants}
+use Rattle.tz_zone.proofs.Common.{ℕ, ℤ, ◌<◌, ◌≤ℤ◌, ◌<ℤ◌, ◌+ℤ◌, LeapSecond, IsInstant, IsPastInstants, IsReached}
 use Rattle.tz_zone.proofs.leap.leap_time.last_with_all.Given as goal
 
 abbrev pub invariant-loop-index : goal.invariant-loop-index

@@ -1,5 +1,5 @@
 -- The index at which all before it are reached, and it is not, is the count.
-use Rattle.std.proofs.lemmas.Int.{to_z-of_z}
+use Rattle.tz_zone.proofs.Common.{to_z-of_z}
 use Rattle.tz_zone.proofs.LeapLists.{IsReachedCount, IsReached-below, IsReached-from_count, IsReachedCount-from_point}
 use Rattle.tz_zone.proofs.leap.leap_time.leap_seconds_reached.Goals as goal
 

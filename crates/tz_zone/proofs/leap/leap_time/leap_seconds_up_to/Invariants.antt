@@ -1,7 +1,5 @@
 -- All before the lower index are up to the leap time, and the one at the upper index is later.
-use Rattle.std.proofs.Common.{◌≡◌, ℕ, ◌+◌, ◌-◌, ◌<◌, ◌≤◌, ◌≤ℤ◌, length, Some}
-use Rattle.std.specs.Prelude.{slice_get}
-use Rattle.tz_zone.specs.Table.{LeapSecond}
+use Rattle.tz_zone.proofs.Common.{◌≡◌, ℕ, length, ◌<◌, ◌≤ℤ◌, Some, ◌-◌, ◌≤◌, ◌+◌, LeapSecond, slice_get}
 use Rattle.tz_zone.proofs.leap.leap_time.leap_seconds_up_to.Given as goal
 
 abbrev pub invariant-loop-low : goal.invariant-loop-low

@@ -1,6 +1,5 @@
 -- Without leap seconds the leap time is the instant.
-use Rattle.std.proofs.lemmas.Int.{to_z-of_z}
-use mir.Syntax.{w64}
+use Rattle.tz_zone.proofs.Common.{to_z-of_z, w64}
 use Rattle.tz_zone.proofs.EmptyLists.{none_if_empty}
 use Rattle.tz_zone.proofs.InstantsWithLeapTime.{plain_leap}
 use Rattle.tz_zone.proofs.leap.leap_time.leap_time.Goals as goal

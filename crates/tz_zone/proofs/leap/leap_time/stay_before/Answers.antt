@@ -1,9 +1,5 @@
 -- Up to an instant that all tables reach each has a leap time, which grows by three times the seconds at most.
-use Rattle.std.proofs.Common.{◌≡◌, arith, ℤ, pos, negsuc, ◌+ℤ◌, ◌-ℤ◌, ◌*ℤ◌, ◌≤ℤ◌}
-use Rattle.std.proofs.lemmas.Int.{ints, to_z-of_z}
-use mir.Syntax.{w64, w128}
-use mir.Val.{SFits, to_z, of_z}
-use Rattle.tz_rule.proofs.WeakerClauses.{MatchBool-lt_z}
+use Rattle.tz_zone.proofs.Common.{◌≡◌, arith, to_z-of_z, ints, w64, ℤ, ◌≤ℤ◌, pos, ◌-ℤ◌, ◌+ℤ◌, SFits, negsuc, to_z, of_z, w128, MatchBool-lt_z, ◌*ℤ◌}
 use Rattle.tz_zone.proofs.LeapTimes.{leap_time_speed}
 use Rattle.tz_zone.proofs.InstantsWithLeapTime.{leap_unless_refused, defined_within}
 use Rattle.tz_zone.proofs.leap.leap_time.stay_before.Goals as goal

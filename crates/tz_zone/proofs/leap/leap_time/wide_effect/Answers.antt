@@ -1,8 +1,5 @@
 -- Before a truncated start the effect is that of the start.
-use Rattle.std.proofs.Common.{◌≡◌, arith, rules, ◌<ℤ◌}
-use Rattle.std.proofs.lemmas.Int.{ints, to_z-of_z}
-use mir.Syntax.{w64, w128}
-use mir.Val.{to_z, of_z}
+use Rattle.tz_zone.proofs.Common.{◌≡◌, arith, to_z-of_z, rules, ints, w64, ◌<ℤ◌, to_z, of_z, w128}
 use Rattle.tz_zone.proofs.WideEffects.{IsWideEffect-early}
 use Rattle.tz_zone.proofs.leap.leap_time.wide_effect.Goals as goal
 

@@ -1,11 +1,5 @@
 -- The effect by the last leap second up to the leap time.
-use Rattle.std.proofs.Common.{◌≡◌, suc, ◌-◌, ◌∙◌, refl, arith, rules, ◌-ℤ◌}
-use Rattle.std.specs.Int.{int_max}
-use Rattle.std.proofs.lemmas.Int.{ints, to_z-of_z}
-use Rattle.std.proofs.lemmas.Option.{slice_get_read}
-use mir.Syntax.{w128}
-use mir.Val.{to_z, of_z}
-use Rattle.tz_zone.specs.LeapTime.{correction_before}
+use Rattle.tz_zone.proofs.Common.{◌≡◌, arith, to_z-of_z, rules, ints, refl, ◌∙◌, ◌-ℤ◌, ◌-◌, slice_get_read, to_z, of_z, suc, w128, correction_before, int_max}
 use Rattle.tz_zone.proofs.WideEffects.{times_from_items, IsEffectByCount-none, IsEffectByCount-greater, IsWideEffect-from_count}
 use Rattle.tz_zone.proofs.leap.leap_time.wide_effect_from_start.Goals as goal
 

@@ -1,6 +1,5 @@
 -- The leap seconds are a table when the first may come first and each next one may follow.
-use Rattle.std.proofs.Common.{arith, below_more}
-use Rattle.tz_zone.specs.ValidZone.{FollowsAt}
+use Rattle.tz_zone.proofs.Common.{arith, FollowsAt, below_more}
 use Rattle.tz_zone.proofs.TableChecks.{are_from_loop}
 use Rattle.tz_zone.proofs.leap.table_checks.are_leap_seconds.Goals as goal
 

@@ -1,6 +1,5 @@
 -- The records so far are followed by such as may follow.
-use Rattle.std.proofs.Common.{ℕ, ◌<◌}
-use Rattle.tz_zone.specs.ValidZone.{FollowsAt}
+use Rattle.tz_zone.proofs.Common.{ℕ, ◌<◌, FollowsAt}
 use Rattle.tz_zone.proofs.leap.table_checks.are_leap_seconds.Given as goal
 
 abbrev pub invariant-loop-i : goal.invariant-loop-i

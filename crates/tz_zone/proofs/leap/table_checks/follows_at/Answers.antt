@@ -1,9 +1,5 @@
 -- What is tested of the record and the one after it.
-use Rattle.std.proofs.Common.{◌+◌, arith, rules}
-use Rattle.std.proofs.lemmas.Int.{ints}
-use Rattle.std.proofs.lemmas.Option.{slice_get_within}
-use Rattle.tz_rule.proofs.WeakerClauses.{MatchBool-weaker}
-use Rattle.tz_zone.specs.ValidZone.{Follows}
+use Rattle.tz_zone.proofs.Common.{arith, rules, ints, ◌+◌, slice_get_within, Follows, MatchBool-weaker}
 use Rattle.tz_zone.proofs.TableChecks.{pair_test, less_test}
 use Rattle.tz_zone.proofs.leap.table_checks.follows_at.Goals as goal
 use Rattle.tz_zone.proofs.leap.table_checks.follows_at.Goals.{else-index-leap_seconds-2-via-then-index-leap_seconds-2+else-correction, else-index-leap_seconds-2-via-else-index-leap_seconds-2}

@@ -1,9 +1,5 @@
 -- The difference of two numbers of 32 bits fits 64, where 1 and -1 are told by their bits.
-use Rattle.std.proofs.Common.{◌≡◌, ℤ, ◌-ℤ◌, eqb, MatchBool, arith, rules}
-use Rattle.std.proofs.lemmas.Int.{ints}
-use mir.Syntax.{w32, w64}
-use mir.Val.{SFits, to_z, of_z}
-use Rattle.tz_zone.specs.LeapTime.{IsOneSecond}
+use Rattle.tz_zone.proofs.Common.{◌≡◌, arith, rules, ints, w64, ℤ, ◌-ℤ◌, SFits, to_z, of_z, w32, eqb, MatchBool, IsOneSecond}
 use Rattle.tz_zone.proofs.leap.table_checks.is_one_second_apart.Goals as goal
 
 same_difference : (a b c d : ℤ) → SFits w32 a → SFits w32 b → c ≡ to_z w32 (of_z w32 a) → d ≡ to_z w32 (of_z w32 b)

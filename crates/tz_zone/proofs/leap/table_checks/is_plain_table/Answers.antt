@@ -1,10 +1,6 @@
 -- A table is plain where neither a truncated start nor an expiry is found.
-use Rattle.std.proofs.Common.{◌≡◌, sym, Bool, true, false, not, ℤ, Option, Some, None}
-use Rattle.std.specs.Prelude.{MatchBool, MatchOption, IfSome, IfNone, is_some}
-use Rattle.std.proofs.lemmas.Bool.{false≢true}
-use Rattle.tz_zone.specs.Table.{LeapSecond}
-use Rattle.tz_zone.specs.LeapTime.{IsStart}
-use Rattle.tz_zone.specs.ValidZone.{ExpiresAt}
+use Rattle.tz_zone.proofs.Common.{◌≡◌, sym, ℤ, Some, Option, LeapSecond, None, false, true, Bool, MatchOption, false≢true, IsStart, ExpiresAt, IfSome, IfNone, is_some, not}
+use Rattle.std.specs.Prelude.{MatchBool}
 use Rattle.tz_zone.proofs.leap.table_checks.is_plain_table.Goals as goal
 
 at_none : {X : Type 0} (o : Option X) (P : Type 0) (Q : X → Type 0) → is_some o ≡ false → MatchOption o P Q → P

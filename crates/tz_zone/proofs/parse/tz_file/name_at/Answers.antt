@@ -1,6 +1,5 @@
 -- A name ends where the first zero byte is found.
-use Rattle.std.proofs.Common.{◌-◌, ◌<◌, length, sym, ◌∙◌, arith}
-use Rattle.std.proofs.lemmas.List.{length-take-le}
+use Rattle.tz_zone.proofs.Common.{arith, sym, length, ◌∙◌, ◌<◌, ◌-◌, length-take-le}
 use Rattle.tz_zone.proofs.TzNames.{name_there, no_name_there}
 use Rattle.tz_zone.proofs.parse.tz_file.name_at.Goals as goal
 

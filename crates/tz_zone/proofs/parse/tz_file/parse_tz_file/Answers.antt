@@ -1,13 +1,5 @@
 -- What the tables and the rule make is the zone of the file, and what they fail to make is a fault of it.
-use Rattle.std.proofs.Common.{◌≡◌, refl, subst, ap, ◌∙◌, inl, inr}
-use Rattle.std.specs.Prelude.{option_copied}
-use Rattle.std.proofs.lemmas.Result.{IfErr-weaker, err_from_is_err_and}
-use Rattle.tz_zone.specs.Table.{Zone, zone_with}
-use Rattle.tz_zone.specs.ValidZone.{IsFirstZoneFault}
-use Rattle.tz_zone.specs.TzFile.{Part, IsContent, HoldsLeapSeconds, part_of, zone_of_part}
-use Rattle.tz_zone.specs.TzFileFault.{ContentFails, IsReadFault}
-use Rattle.tz_zone.specs.TzParts.{unit_view}
-use Rattle.tz_zone.specs.ZoneRef.{own_zone_of}
+use Rattle.tz_zone.proofs.Common.{◌≡◌, refl, inr, inl, ◌∙◌, subst, ap, Zone, own_zone_of, zone_with, IfErr-weaker, IsReadFault, Part, err_from_is_err_and, option_copied, part_of, ContentFails, HoldsLeapSeconds, IsContent, IsFirstZoneFault, zone_of_part, unit_view}
 use Rattle.tz_zone.proofs.TzFileLaws.{zone_of_tables, holds_from_tables, tables_from_holds, rule_of_file, made_is_file}
 use Rattle.tz_zone.proofs.parse.tz_file.parse_tz_file.Goals as goal
 

@@ -1,6 +1,5 @@
 -- A fault of the footer's text is one of the footer.
-use Rattle.std.proofs.Common.{List, ℕ, ◌∙◌, subst, inr}
-use Rattle.tz_zone.specs.TzTextFault.{IsTzTextFault}
+use Rattle.tz_zone.proofs.Common.{ℕ, inr, ◌∙◌, subst, List, IsTzTextFault}
 use Rattle.tz_zone.proofs.EmptyLists.{some_unless_empty}
 use Rattle.tz_zone.proofs.parse.tz_file.read_footer.Goals as goal
 

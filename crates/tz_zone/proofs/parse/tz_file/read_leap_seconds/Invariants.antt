@@ -1,7 +1,5 @@
 -- The leap seconds of the records so far.
-use Rattle.std.proofs.Common.{◌≡◌}
-use Rattle.tz_zone.specs.TzFile.{leaps_of}
-use Rattle.tz_zone.specs.TzParts.{width_of, block_view}
+use Rattle.tz_zone.proofs.Common.{◌≡◌, block_view, leaps_of, width_of}
 use Rattle.tz_zone.proofs.parse.tz_file.read_leap_seconds.Given as goal
 
 abbrev pub invariant-loop-i : goal.invariant-loop-i

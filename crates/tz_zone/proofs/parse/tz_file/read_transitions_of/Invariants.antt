@@ -1,8 +1,5 @@
 -- The transitions of the records so far, with room for the others.
-use Rattle.std.proofs.Common.{◌≡◌, ◌≤◌}
-use Rattle.std.specs.Prelude.{vec_len, vec_capacity}
-use Rattle.tz_zone.specs.TzFile.{transitions_of}
-use Rattle.tz_zone.specs.TzParts.{width_of, block_view}
+use Rattle.tz_zone.proofs.Common.{◌≡◌, ◌≤◌, block_view, transitions_of, width_of, vec_capacity, vec_len}
 use Rattle.tz_zone.proofs.parse.tz_file.read_transitions_of.Given as goal
 
 abbrev pub invariant-loop-i : goal.invariant-loop-i

@@ -1,12 +1,5 @@
 -- The three fields of the record make its type, or one of them is the fault.
-use Rattle.std.proofs.Common.{◌≡◌, refl, subst, rules}
-use Rattle.std.proofs.lemmas.Int.{to_z-of_z}
-use Rattle.std.specs.Prelude.{option_copied}
-use mir.Syntax.{w32}
-use mir.Val.{to_z, of_z}
-use Rattle.tz_rule.specs.LocalTimeType.{IsLocalTimeType, type_of}
-use Rattle.tz_zone.specs.TzFile.{type_at}
-use Rattle.tz_zone.specs.TzParts.{block_view}
+use Rattle.tz_zone.proofs.Common.{◌≡◌, to_z-of_z, rules, refl, subst, to_z, of_z, w32, block_view, IsLocalTimeType, option_copied, type_at, type_of}
 use Rattle.tz_zone.proofs.parse.tz_file.read_type.Goals as goal
 
 pub returns-clause-ok : goal.returns-clause-ok

@@ -1,7 +1,5 @@
 -- One more record is read and its type is pushed; in the end all records are.
-use Rattle.std.proofs.Common.{sym, below_more}
-use Rattle.tz_zone.specs.TzFile.{IsTypeRecord}
-use Rattle.tz_zone.specs.TzParts.{block_view}
+use Rattle.tz_zone.proofs.Common.{sym, block_view, IsTypeRecord, below_more}
 use Rattle.tz_zone.proofs.TzTables.{types_more}
 use Rattle.tz_zone.proofs.parse.tz_file.read_types.Goals as goal
 

@@ -1,7 +1,5 @@
 -- The types of the records so far.
-use Rattle.std.proofs.Common.{◌≡◌, ℕ, ◌<◌}
-use Rattle.tz_zone.specs.TzFile.{IsTypeRecord, types_of}
-use Rattle.tz_zone.specs.TzParts.{block_view}
+use Rattle.tz_zone.proofs.Common.{◌≡◌, ℕ, ◌<◌, block_view, IsTypeRecord, types_of}
 use Rattle.tz_zone.proofs.parse.tz_file.read_types.Given as goal
 
 abbrev pub invariant-loop-i : goal.invariant-loop-i

@@ -1,5 +1,4 @@
-use Rattle.std.proofs.Common.{refl, ap, inl, inr}
-use Rattle.tz_base.specs.declared.error.TzError.TheVariants.{TzString}
+use Rattle.tz_zone.proofs.Common.{refl, inr, inl, ap, TzString}
 use Rattle.tz_zone.proofs.EmptyLists.{none_if_empty, some_unless_empty}
 use Rattle.tz_zone.proofs.QuestionMarkExits.{exit}
 use Rattle.tz_zone.proofs.parse.tz_string.read_daylight.Goals as goal

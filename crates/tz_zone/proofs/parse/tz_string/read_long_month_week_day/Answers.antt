@@ -1,7 +1,5 @@
-use Rattle.std.proofs.Common.{refl, ap, subst, inl, inr, ℕ, List}
-use Rattle.tz_base.specs.declared.error.TzError.TheVariants.{TzString, TransitionRule}
-use Rattle.tz_rule.specs.MonthWeek.{month_week}
-use Rattle.tz_zone.specs.TzText.{IsNumber}
+use Rattle.tz_zone.proofs.Common.{ℕ, refl, inr, inl, subst, ap, List, IsNumber, TzString, month_week}
+use Rattle.tz_base.specs.declared.error.TzError.TheVariants.{TransitionRule}
 use Rattle.tz_zone.proofs.QuestionMarkExits.{exit}
 use Rattle.tz_zone.proofs.TextDays.{month_week_fails}
 use Rattle.tz_zone.proofs.parse.tz_string.read_long_month_week_day.Goals as goal

@@ -1,5 +1,5 @@
 -- What `parse` says of the digits is what is wrong with the text.
-use Rattle.tz_base.specs.declared.error.TzStringError.TheVariants.{ParseInt}
+use Rattle.tz_zone.proofs.Common.{ParseInt}
 use Rattle.tz_zone.proofs.QuestionMarkExits.{exit}
 use Rattle.tz_zone.proofs.TextNumbers.{unsigned_fault}
 use Rattle.tz_zone.proofs.parse.tz_string.read_long_year_day.Goals as goal

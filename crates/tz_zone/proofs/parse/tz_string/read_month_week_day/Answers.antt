@@ -1,6 +1,6 @@
 -- What the numbers of a day fail by is a fault of the day.
+use Rattle.tz_zone.proofs.Common.{month_week}
 use Rattle.tz_base.specs.declared.error.TzError.TheVariants.{TransitionRule}
-use Rattle.tz_rule.specs.MonthWeek.{month_week}
 use Rattle.tz_zone.proofs.QuestionMarkExits.{exit}
 use Rattle.tz_zone.proofs.TextDays.{month_week_fails}
 use Rattle.tz_zone.proofs.parse.tz_string.read_month_week_day.Goals as goal

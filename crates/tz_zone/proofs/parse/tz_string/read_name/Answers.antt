@@ -1,5 +1,5 @@
 -- A name in brackets is the run before the closing one.
-use Rattle.std.proofs.Common.{refl}
+use Rattle.tz_zone.proofs.Common.{refl}
 use Rattle.tz_zone.proofs.TextParts.{unclosed}
 use Rattle.tz_zone.proofs.parse.tz_string.read_name.Goals as goal
 

@@ -1,5 +1,4 @@
-use Rattle.std.proofs.Common.{ℕ, List, subst, inl, inr}
-use Rattle.tz_zone.specs.TzText.{IsRuleText}
+use Rattle.tz_zone.proofs.Common.{ℕ, inr, inl, subst, List, IsRuleText}
 use Rattle.tz_zone.proofs.QuestionMarkExits.{exit}
 use Rattle.tz_zone.proofs.parse.tz_string.read_switches.Goals as goal
 

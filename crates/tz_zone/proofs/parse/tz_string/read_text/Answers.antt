@@ -1,10 +1,6 @@
-use Rattle.std.proofs.Common.{◌≡◌, refl, ap, ◌∙◌, true, false, inl, inr, rules}
-use Rattle.std.specs.Prelude.{FitsSigned}
+use Rattle.tz_zone.proofs.Common.{◌≡◌, rules, refl, inr, inl, ◌∙◌, ap, to_z, false, of_z, true, FitsSigned, AlternateText, IsAlternateText, TzString, rule_of, IsAlternateInRange, alternate_of, ut_offset_of}
 use Rattle.std.specs.Int.{w32}
-use mir.Val.{to_z, of_z}
-use Rattle.tz_base.specs.declared.error.TzError.TheVariants.{TzString, LocalTimeType as TypeFault, TransitionRule}
-use Rattle.tz_rule.specs.Alternate.{alternate_of}
-use Rattle.tz_zone.specs.TzText.{AlternateText, IsAlternateText, IsAlternateInRange, rule_of, ut_offset_of}
+use Rattle.tz_base.specs.declared.error.TzError.TheVariants.{LocalTimeType as TypeFault, TransitionRule}
 use Rattle.tz_zone.proofs.EmptyLists.{none_if_empty, some_unless_empty}
 use Rattle.tz_zone.proofs.QuestionMarkExits.{exit}
 use Rattle.tz_zone.proofs.TextAnswers.{bad_name, offset_fails, daylight_fails, rules_fail, whole_text, same_rule_of, same_type_of, passed}

@@ -1,10 +1,4 @@
-use Rattle.std.proofs.Common.{◌≡◌, length, rules}
-use borrow.Author.Tests.{tests}
-use Rattle.std.proofs.lemmas.Iterator.{YieldsList-from_slice}
-use Rattle.std.proofs.lemmas.Iterator.Consumers.{count_from_yields_List}
-use Rattle.std.proofs.lemmas.Iterator.Search.{YieldsList-from_take_while}
-use Rattle.std.specs.List.{take_while}
-use Rattle.std.specs.Char.{is_ascii_digit}
+use Rattle.tz_zone.proofs.Common.{◌≡◌, rules, length, take_while, YieldsList-from_slice, YieldsList-from_take_while, count_from_yields_List, is_ascii_digit, tests}
 use Rattle.tz_zone.proofs.TextRuns.{run_of_split}
 use Rattle.tz_zone.proofs.parse.tz_string.split_digits.Goals as goal
 

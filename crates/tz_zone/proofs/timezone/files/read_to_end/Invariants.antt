@@ -1,5 +1,5 @@
 -- The bytes are those that were read.
-use Rattle.std.specs.Io.KnownBytes.{Consumes}
+use Rattle.tz_zone.proofs.Common.{Consumes}
 use Rattle.tz_zone.proofs.timezone.files.read_to_end.Given as goal
 
 abbrev pub invariant-loop : goal.invariant-loop

@@ -1,7 +1,6 @@
 -- What was taken are the bytes so far and the last piece.
-use Rattle.std.proofs.Common.{◌+◌, ◌≤◌, ◌++◌, ℕ, List, Option, length, take, length-append, refl, arith}
-use Rattle.std.proofs.lemmas.List.{length-take}
-use Rattle.std.specs.Io.KnownBytes.{Consumes}
+use Rattle.tz_zone.proofs.Common.{arith, ℕ, refl, length, List, ◌≤◌, ◌+◌, Option, ◌++◌, Consumes, take, length-take}
+use Rattle.std.proofs.Common.{length-append}
 use Rattle.tz_zone.specs.File.{TakesAtMost}
 use Rattle.tz_zone.proofs.ReadBytes.{consumes_more}
 use Rattle.tz_zone.proofs.timezone.files.read_up_to.Goals as goal

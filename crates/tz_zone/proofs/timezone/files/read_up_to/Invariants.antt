@@ -1,6 +1,5 @@
 -- The bytes are those that were read, and no more than the limit.
-use Rattle.std.proofs.Common.{◌≤◌, length}
-use Rattle.std.specs.Io.KnownBytes.{Consumes}
+use Rattle.tz_zone.proofs.Common.{length, ◌≤◌, Consumes}
 use Rattle.tz_zone.proofs.timezone.files.read_up_to.Given as goal
 
 abbrev pub invariant-loop : goal.invariant-loop

@@ -1,5 +1,4 @@
-use Rattle.std.proofs.Common.{refl, ap, inl, inr}
-use Rattle.tz_base.specs.declared.error.Error.TheVariants.{Tz}
+use Rattle.tz_zone.proofs.Common.{refl, inr, inl, ap, Tz}
 use Rattle.tz_zone.proofs.TzFileLaws.{file_holds}
 use Rattle.tz_zone.proofs.timezone.settings.zone_of_bytes.Goals as goal
 

@@ -1,5 +1,5 @@
 -- The bytes that were found are opened, and a fault is passed on.
-use Rattle.tz_zone.specs.ZoneRef.{own_zone_of}
+use Rattle.tz_zone.proofs.Common.{own_zone_of}
 use Rattle.tz_zone.proofs.SettingsAnswers.{opened_bytes}
 use Rattle.tz_zone.proofs.timezone.settings.zone_of_found.Goals as goal
 

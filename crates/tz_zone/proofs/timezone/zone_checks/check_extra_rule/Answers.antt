@@ -1,12 +1,6 @@
 -- The rule answers at the last transition with its type, or the fault is named.
-use Rattle.std.proofs.Common.{◌<◌, ◌-◌, length, refl, sym, rules, inl, inr, ap, option_map}
-use Rattle.std.proofs.lemmas.Int.{to_z-of_z}
-use Rattle.std.proofs.lemmas.Option.{slice_get_read}
-use Rattle.std.proofs.lemmas.Result.{err_from_is_err_and}
-use mir.Syntax.{w64}
-use Rattle.tz_rule.specs.RuleRef.{rule_seen}
+use Rattle.tz_zone.proofs.Common.{to_z-of_z, rules, w64, refl, sym, inr, inl, length, ◌<◌, ap, ◌-◌, slice_get_read, rule_seen, option_map, zone_with, err_from_is_err_and}
 use Rattle.tz_zone.specs.LentRules.{lent_rule}
-use Rattle.tz_zone.specs.Table.{zone_with}
 use Rattle.tz_zone.proofs.RuleChecks.{not_answers, answers_at, agrees_at, not_agrees, same_from_test, other_from_test}
 use Rattle.tz_zone.proofs.timezone.zone_checks.check_extra_rule.Goals as goal
 

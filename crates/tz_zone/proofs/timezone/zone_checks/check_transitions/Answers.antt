@@ -1,7 +1,6 @@
 -- Each transition so far names a type and rises.
-use Rattle.std.proofs.Common.{below_more}
+use Rattle.tz_zone.proofs.Common.{HasTypeAtIndex, RisesAtIndex, below_more}
 use Rattle.tz_zone.proofs.TableChecks.{transitions_from_loop}
-use Rattle.tz_zone.specs.ValidZone.{HasTypeAtIndex, RisesAtIndex}
 use Rattle.tz_zone.proofs.timezone.zone_checks.check_transitions.Goals as goal
 
 pub loop-i-preserved : goal.loop-i-preserved

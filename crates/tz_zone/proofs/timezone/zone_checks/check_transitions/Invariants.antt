@@ -1,6 +1,5 @@
 -- The transitions so far name types and rise.
-use Rattle.std.proofs.Common.{ℕ, ◌<◌}
-use Rattle.tz_zone.specs.ValidZone.{HasTypeAtIndex, RisesAtIndex}
+use Rattle.tz_zone.proofs.Common.{ℕ, ◌<◌, HasTypeAtIndex, RisesAtIndex}
 use Rattle.tz_zone.proofs.timezone.zone_checks.check_transitions.Given as goal
 
 abbrev pub invariant-loop-i : goal.invariant-loop-i

@@ -1,11 +1,5 @@
 -- The types of the list and of the rule.
-use Rattle.std.proofs.Common.{◌∙◌, inl, inr, sym, subst, arith, rules, ap, option_map}
-use Rattle.std.proofs.lemmas.Int.{ints, to_z-of_z}
-use Rattle.std.proofs.lemmas.Option.{same_Some}
-use mir.Syntax.{w32}
-use Rattle.tz_rule.specs.RuleRef.{rule_seen}
-use Rattle.tz_rule.specs.declared.timezone.transition_rule.TransitionRule.{TransitionRule}
-use Rattle.tz_zone.specs.Offsets.{IsOffsetOfRule}
+use Rattle.tz_zone.proofs.Common.{arith, to_z-of_z, rules, ints, sym, inr, inl, ◌∙◌, subst, ap, same_Some, w32, TransitionRule, rule_seen, option_map, IsOffsetOfRule}
 use Rattle.tz_zone.proofs.timezone.zone_checks.offset_range.Goals as goal
 
 pub returns-in-Some : goal.returns-in-Some

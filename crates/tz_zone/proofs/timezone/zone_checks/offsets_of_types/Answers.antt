@@ -1,12 +1,5 @@
 -- One more type.
-use Rattle.std.proofs.Common.{refl, ◌≡◌, ◌⊎◌, ◌∙◌, inl, inr, sym, ap, arith, rules, Some, ℕ, ℤ, List}
-use Rattle.std.specs.Prelude.{slice_get}
-use Rattle.std.proofs.lemmas.Int.{ints, to_z-of_z}
-use Rattle.std.proofs.lemmas.Bool.{cases_lt}
-use Rattle.std.proofs.lemmas.Option.{same_Some, slice_get_within, slice_get_read}
-use mir.Syntax.{w32}
-use Rattle.tz_rule.specs.LocalTimeType.{LocalTimeType}
-use Rattle.tz_zone.specs.Offsets.{IsOffsetOfTypes}
+use Rattle.tz_zone.proofs.Common.{◌≡◌, arith, to_z-of_z, ℕ, rules, ints, refl, sym, inr, inl, ℤ, ◌∙◌, ap, List, Some, LocalTimeType, slice_get, slice_get_within, slice_get_read, same_Some, ◌⊎◌, w32, cases_lt, IsOffsetOfTypes}
 use Rattle.tz_zone.proofs.timezone.zone_checks.offsets_of_types.Goals as goal
 
 -- an end is that of the types so far, or that of one more

@@ -1,8 +1,5 @@
 -- The least and the greatest offset of the types so far.
-use Rattle.std.proofs.Common.{◌≡◌, ℕ, ◌<◌, ◌≤ℤ◌, Some}
-use Rattle.std.specs.Prelude.{slice_get}
-use Rattle.tz_rule.specs.LocalTimeType.{LocalTimeType}
-use Rattle.tz_zone.specs.Offsets.{IsOffsetOfTypes}
+use Rattle.tz_zone.proofs.Common.{◌≡◌, ℕ, ◌<◌, ◌≤ℤ◌, Some, LocalTimeType, slice_get, IsOffsetOfTypes}
 use Rattle.tz_zone.proofs.timezone.zone_checks.offsets_of_types.Given as goal
 
 abbrev pub invariant-loop-index : goal.invariant-loop-index

@@ -1,9 +1,5 @@
 -- A leap time takes effect at one instant alone.
-use Rattle.std.proofs.Common.{rules}
-use Rattle.std.proofs.lemmas.Int.{to_z-of_z}
-use Rattle.std.proofs.lemmas.Result.{IfErr-weaker}
-use mir.Syntax.{w64}
-use Rattle.tz_rule.specs.RuleRef.{rule_seen}
+use Rattle.tz_zone.proofs.Common.{to_z-of_z, rules, w64, rule_seen, IfErr-weaker}
 use Rattle.tz_zone.proofs.RuleChecks.{no_rule_type_at}
 use Rattle.tz_zone.proofs.timezone.zone_checks.rule_type_at.Goals as goal
 

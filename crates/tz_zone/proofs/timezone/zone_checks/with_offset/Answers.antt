@@ -1,7 +1,5 @@
 -- The less and the greater of two numbers are one of them.
-use Rattle.std.proofs.Common.{◌∙◌, inl, inr, rules}
-use Rattle.std.proofs.lemmas.Int.{to_z-of_z}
-use mir.Syntax.{w32}
+use Rattle.tz_zone.proofs.Common.{to_z-of_z, rules, inr, inl, ◌∙◌, w32}
 use Rattle.tz_zone.proofs.OffsetBounds.{int_min_either, int_max_either}
 use Rattle.tz_zone.proofs.timezone.zone_checks.with_offset.Goals as goal
 

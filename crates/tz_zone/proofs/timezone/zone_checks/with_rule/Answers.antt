@@ -1,8 +1,5 @@
 -- The types of the rule have its offsets.
-use Rattle.std.proofs.Common.{◌≡◌, ◌∙◌, inl, inr, ap, arith, rules}
-use Rattle.std.proofs.lemmas.Int.{ints, to_z-of_z}
-use mir.Syntax.{w32}
-use Rattle.tz_rule.specs.LocalTimeType.{LocalTimeType}
+use Rattle.tz_zone.proofs.Common.{◌≡◌, arith, to_z-of_z, rules, ints, inr, inl, ◌∙◌, ap, LocalTimeType, w32}
 use Rattle.tz_zone.proofs.timezone.zone_checks.with_rule.Goals as goal
 
 pub returns-in-Fixed : goal.returns-in-Fixed

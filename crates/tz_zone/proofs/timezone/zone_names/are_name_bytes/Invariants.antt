@@ -1,6 +1,5 @@
 -- The bytes so far may stand in a name.
-use Rattle.std.proofs.Common.{ℕ, ◌<◌, get_or}
-use Rattle.tz_zone.specs.ZoneNames.{IsZoneNameByte}
+use Rattle.tz_zone.proofs.Common.{ℕ, ◌<◌, get_or, IsZoneNameByte}
 use Rattle.tz_zone.proofs.timezone.zone_names.are_name_bytes.Given as goal
 
 abbrev pub invariant-loop-byte : goal.invariant-loop-byte

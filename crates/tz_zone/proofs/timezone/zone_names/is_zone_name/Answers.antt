@@ -1,12 +1,7 @@
 -- Each of the parts passes.
-use Rattle.std.proofs.Common.{◌≡◌, ℕ, ◌<◌, Bool, true, false, List, length, eqb, MatchBool, All, arith, rules, tests}
-use Rattle.std.specs.List.{HoldsAt, AllWithin, slice_split}
-use Rattle.std.proofs.lemmas.Iterator.{cases_from_all}
-use Rattle.std.proofs.lemmas.Iterator.Search.{true_from_All}
+use Rattle.tz_zone.proofs.Common.{◌≡◌, arith, ℕ, rules, length, ◌<◌, List, false, true, Bool, eqb, false≢true, MatchBool, slash, All, AllWithin, HoldsAt, IsZoneNamePart, cases_from_all, slice_split, true_from_All}
+use Rattle.std.proofs.Common.{tests}
 use Rattle.std.proofs.lemmas.Iterator.Splits.{YieldsList-from_slice_split}
-use Rattle.std.proofs.lemmas.Bool.{false≢true}
-use Rattle.tz_zone.specs.Bytes.{slash}
-use Rattle.tz_zone.specs.ZoneNames.{IsZoneNamePart}
 use Rattle.tz_zone.proofs.timezone.zone_names.is_zone_name.Goals as goal
 
 all_pass : (r : Bool) (xs : List (List ℕ))

@@ -1,8 +1,5 @@
 -- The zone that is searched is that of the call, and so are the fields.
-use Rattle.std.proofs.Common.{subst}
-use Rattle.std.specs.Prelude.{⊤}
-use Rattle.tz_zone.specs.Table.{Zone}
-use Rattle.tz.specs.Outcomes.{IsOutcome}
+use Rattle.tz.proofs.Common.{subst, Zone, IsOutcome, ⊤}
 use Rattle.tz.proofs.datetime.date_time.DateTime.find_local.Goals as goal
 
 pub returns-clause-outcome : goal.returns-clause-outcome

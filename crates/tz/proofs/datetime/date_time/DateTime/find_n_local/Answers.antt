@@ -1,9 +1,5 @@
 -- The zone that is searched is that of the call, and so are the fields and the fault.
-use Rattle.std.proofs.Common.{subst, Err}
-use Rattle.std.specs.Prelude.{Result}
-use Rattle.tz_base.specs.declared.error.TzError.{TzError}
-use Rattle.tz_zone.specs.Table.{Zone}
-use Rattle.tz.specs.Outcomes.{IsOutcome}
+use Rattle.tz.proofs.Common.{subst, Zone, IsOutcome, TzError, Err, Result}
 use Rattle.tz.specs.declared.datetime.found.FoundDateTimeListRefMut.{FoundDateTimeListRefMut}
 use Rattle.tz.proofs.datetime.date_time.DateTime.find_n_local.Goals as goal
 

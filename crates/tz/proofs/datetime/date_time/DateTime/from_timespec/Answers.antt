@@ -1,10 +1,5 @@
 -- The zone that is looked up is that of the call.
-use Rattle.std.proofs.Common.{subst}
-use Rattle.std.specs.Prelude.{IfErr, IfOk}
-use Rattle.std.proofs.lemmas.Int.{to_z-of_z}
-use mir.Syntax.{w64}
-use Rattle.tz_zone.specs.Table.{Zone}
-use Rattle.tz.specs.DateTimes.{IsClockFault, ShowsByClock}
+use Rattle.tz.proofs.Common.{subst, to_z-of_z, w64, Zone, ShowsByClock, IsClockFault, IfErr, IfOk}
 use Rattle.tz.proofs.datetime.date_time.DateTime.from_timespec.Goals as goal
 
 pub returns : goal.returns

@@ -1,8 +1,5 @@
 -- What the zone's clock shows at the seconds and nanoseconds of the total.
-use Rattle.std.proofs.Common.{inr, rules}
-use Rattle.std.proofs.lemmas.Int.{to_z-of_z}
-use Rattle.std.proofs.lemmas.Result.{IfErr-weaker, IfOk-weaker}
-use mir.Syntax.{w64, w128}
+use Rattle.tz.proofs.Common.{inr, to_z-of_z, rules, w64, IfErr-weaker, IfOk-weaker, w128}
 use Rattle.tz.proofs.datetime.date_time.DateTime.from_total_nanoseconds.Goals as goal
 
 pub returns : goal.returns

@@ -1,14 +1,5 @@
 -- The looks are those of a view at which none had been taken, in the zone of the call.
-use Rattle.std.proofs.Common.{sym, subst, arith, ◌<◌, ◌^◌, length}
-use Rattle.std.proofs.lemmas.Int.{to_z-of_z}
-use Rattle.std.proofs.lemmas.Result.{err_from_is_err_and}
-use mir.Syntax.{w32}
-use Rattle.tz_base.specs.declared.fields.Fields.{Fields}
-use Rattle.tz_base.specs.Fields.{fields_of, reading}
-use Rattle.tz_zone.specs.Clock.{IsClock}
-use Rattle.tz_zone.specs.Table.{Zone}
-use Rattle.tz.specs.FindFaults.{IsFindFault, IsPromised}
-use Rattle.tz.specs.Windows.{AtMostTakeEffectAround}
+use Rattle.tz.proofs.Common.{arith, subst, sym, to_z-of_z, ◌<◌, length, Fields, IsClock, Zone, w32, ◌^◌, err_from_is_err_and, reading, fields_of, IsFindFault, AtMostTakeEffectAround, IsPromised}
 use Rattle.tz.proofs.datetime.date_time.DateTime.listed_counted.Goals as goal
 
 pub returns-clause-at_most : goal.returns-clause-at_most

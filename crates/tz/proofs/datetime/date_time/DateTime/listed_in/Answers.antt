@@ -1,6 +1,5 @@
 -- The slots hold what is found.
-use Rattle.std.proofs.Common.{◌∙◌, sym, arith, Some}
-use Rattle.std.proofs.lemmas.Grind.{common_steps}
+use Rattle.tz.proofs.Common.{arith, ◌∙◌, sym, Some, common_steps}
 use Rattle.tz.proofs.PlacedSlots.{held, filled_is_placed}
 use Rattle.tz.proofs.datetime.date_time.DateTime.listed_in.Goals as goal
 

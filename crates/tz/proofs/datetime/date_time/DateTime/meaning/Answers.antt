@@ -1,11 +1,5 @@
 -- The zone that is searched is that of the call, and so are the fields.
-use Rattle.std.proofs.Common.{subst}
-use Rattle.std.proofs.lemmas.Int.{to_z-of_z}
-use mir.Syntax.{w32}
-use Rattle.tz_base.specs.declared.fields.Fields.{Fields}
-use Rattle.tz_base.specs.Fields.{fields_of}
-use Rattle.tz_zone.specs.Table.{Zone}
-use Rattle.tz.specs.Outcomes.{IsOutcome}
+use Rattle.tz.proofs.Common.{subst, to_z-of_z, Fields, Zone, w32, fields_of, IsOutcome}
 use Rattle.tz.proofs.datetime.date_time.DateTime.meaning.Goals as goal
 
 pub returns-clause-outcome : goal.returns-clause-outcome

@@ -1,12 +1,6 @@
 -- Checked fields are refused for their instant alone.
-use Rattle.std.proofs.Common.{◌≡◌, ◌<◌, ◌∙◌, inr, refl, rules, sym, ap, subst, arith, ℕ, ℤ, pos, negsuc, ◌-ℤ◌, ◌≤ℤ◌}
-use Rattle.std.proofs.lemmas.Int.{ints, to_z-of_z}
+use Rattle.tz.proofs.Common.{arith, refl, ◌≡◌, subst, ◌∙◌, ints, inr, sym, ap, to_z-of_z, ℕ, ◌<◌, rules, pos, ℤ, Fields, w64, ◌-ℤ◌, w32, IsValid, ◌≤ℤ◌, negsuc, reading, SFits, fields_of, IsReading, moment_of, of_z, to_z}
 use lib.Signed.{mag}
-use mir.Syntax.{w32, w64}
-use mir.Val.{to_z, of_z, SFits}
-use Rattle.tz_base.specs.declared.fields.Fields.{Fields}
-use Rattle.tz_base.specs.Fields.{IsReading, IsValid, fields_of, reading}
-use Rattle.tz.specs.DateTimes.{moment_of}
 use Rattle.tz.proofs.datetime.date_time.DateTime.new.Goals as goal
 
 module _ (read reading at offset wide : ℤ) (bound : (negsuc 67768100567971199 ≤ℤ read)

@@ -1,7 +1,5 @@
 -- The count and the ends show what the entries are.
-use Rattle.std.proofs.Common.{List, sym, subst}
-use Rattle.tz.specs.Ends.{IsFew}
-use Rattle.tz.specs.Entries.{Entry}
+use Rattle.tz.proofs.Common.{subst, sym, List, Entry, IsFew}
 use Rattle.tz.proofs.Ends.{none_of, none_of_last, one_of, two_of}
 use Rattle.tz.proofs.datetime.disambiguation.Ends.few.Goals as goal
 

@@ -1,9 +1,5 @@
 -- The entry is counted, and is the last; the first that is shown, and the first, if there was none.
-use Rattle.std.proofs.Common.{◌∙◌, [], ◌∷◌, arith, length-append}
-use Rattle.std.proofs.lemmas.Int.{to_z-of_z}
-use Rattle.std.proofs.lemmas.List.Elements.{All-cons, All-nil}
-use mir.Syntax.{w64}
-use Rattle.tz.specs.Entries.{Shown, IsEntryInside}
+use Rattle.tz.proofs.Common.{arith, ◌∙◌, [], to_z-of_z, ◌∷◌, w64, Shown, length-append, All-nil, IsEntryInside, All-cons}
 use Rattle.tz.proofs.Ends.{with_shown}
 use Rattle.tz.proofs.datetime.disambiguation.EndsEntryTaker.shown.Goals as goal
 

@@ -1,9 +1,5 @@
 -- The entry is counted, and is the last, and the first if there was none.
-use Rattle.std.proofs.Common.{[], ◌∷◌, arith, length-append, subst}
-use Rattle.std.proofs.lemmas.Int.{to_z-of_z}
-use Rattle.std.proofs.lemmas.List.Elements.{All-cons, All-nil}
-use mir.Syntax.{w64}
-use Rattle.tz.specs.Entries.{Jump, IsEntryInside}
+use Rattle.tz.proofs.Common.{arith, subst, [], to_z-of_z, ◌∷◌, w64, Jump, length-append, All-nil, IsEntryInside, All-cons}
 use Rattle.tz.proofs.Ends.{with_jump}
 use Rattle.tz.proofs.datetime.disambiguation.EndsEntryTaker.skipped.Goals as goal
 

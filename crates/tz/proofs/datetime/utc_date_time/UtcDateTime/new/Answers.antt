@@ -1,7 +1,5 @@
 -- Valid fields that are not past the end make a UTC date time.
-use Rattle.std.proofs.Common.{rules}
-use Rattle.tz_base.specs.Fields.{IsValid}
-use Rattle.tz_base.proofs.LastSeconds.{valid_reading}
+use Rattle.tz.proofs.Common.{rules, IsValid, valid_reading}
 use Rattle.tz.proofs.datetime.utc_date_time.UtcDateTime.new.Goals as goal
 
 pub of_fields-requires : goal.of_fields-requires

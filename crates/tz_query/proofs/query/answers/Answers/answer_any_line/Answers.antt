@@ -1,13 +1,5 @@
 -- A query is answered by what it asks for, and a line that is no query by its error.
-use Rattle.std.proofs.Common.{ℕ, List, [], ◌∷◌, refl, inl, inr, rules}
-use Rattle.std.specs.Prelude.{codes}
-use Rattle.std.proofs.lemmas.Int.{to_z-of_z}
-use mir.Syntax.{w64}
-use Rattle.tz_zone.specs.ZoneRef.{zone_of}
-use Rattle.tz_query.specs.Answers.{IsAnswer}
-use Rattle.tz_query.specs.Lines.{ended}
-use Rattle.tz_query.specs.Outputs.{Adds}
-use Rattle.tz_query.specs.declared.query.read_query.Query.TheVariants.{Time, Search, Meeting}
+use Rattle.tz_query.proofs.Common.{refl, [], ◌∷◌, rules, ℕ, inl, to_z-of_z, List, inr, w64, zone_of, ended, codes, Search, Time, Adds, IsAnswer, Meeting}
 use Rattle.tz_query.proofs.LineFronts.{first_line_to_position}
 use Rattle.tz_query.proofs.query.answers.Answers.answer_any_line.Goals.{in-Time+in_ok-answer_any_time-in-Time, in-Search+in_ok-answer_any_search-in-Search, in-Meeting+in_ok-answer_meeting-in-Meeting}
 use Rattle.tz_query.proofs.query.answers.Answers.answer_any_line.Goals as goal

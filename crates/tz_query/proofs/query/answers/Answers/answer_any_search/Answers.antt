@@ -1,10 +1,7 @@
 -- The first error of the fields, or what they mean.
-use Rattle.std.proofs.Common.{◌++◌, ◌∷◌, [], inl, inr, refl}
-use Rattle.std.specs.Prelude.{codes}
+use Rattle.tz_query.proofs.Common.{refl, [], ◌∷◌, ◌++◌, inl, inr, codes, Search, field_fault_text}
 use Rattle.tz_base.specs.declared.error.TzError.TheVariants.{DateTime}
-use Rattle.tz_query.specs.Answers.{field_fault_text}
 use Rattle.tz_query.proofs.AddedText.{answer_written}
-use Rattle.tz_query.specs.declared.query.read_query.Query.TheVariants.{Search}
 use Rattle.tz_query.proofs.query.answers.Answers.answer_any_search.Goals as goal
 
 pub returns-in-Err : goal.returns-in-Err

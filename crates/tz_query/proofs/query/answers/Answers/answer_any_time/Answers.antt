@@ -1,12 +1,7 @@
 -- The digits of the nanoseconds, or that they are no part of a second.
-use Rattle.std.proofs.Common.{◌∷◌, [], inl, inr, refl, arith}
-use Rattle.std.specs.Prelude.{codes}
-use Rattle.std.proofs.lemmas.Int.{to_z-of_z}
-use mir.Syntax.{w64}
+use Rattle.tz_query.proofs.Common.{refl, arith, [], ◌∷◌, inl, to_z-of_z, inr, w64, codes, Time, InvalidNanoseconds}
 use Rattle.tz_base.specs.declared.error.TzError.TheVariants.{DateTime}
-use Rattle.tz_base.specs.declared.error.DateTimeError.TheVariants.{InvalidNanoseconds}
 use Rattle.tz_query.proofs.AddedText.{answer_written}
-use Rattle.tz_query.specs.declared.query.read_query.Query.TheVariants.{Time}
 use Rattle.tz_query.proofs.query.answers.Answers.answer_any_time.Goals as goal
 
 pub returns-then-nanoseconds-ge-NANOSECONDS_PER_SECOND : goal.returns-then-nanoseconds-ge-NANOSECONDS_PER_SECOND

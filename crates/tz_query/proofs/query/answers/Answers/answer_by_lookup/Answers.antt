@@ -1,14 +1,7 @@
 -- The type of a lookup, or its error.
-use Rattle.std.proofs.Common.{◌++◌, ◌∷◌, [], inl, inr, refl, sym, subst, arith}
-use Rattle.std.specs.Prelude.{codes}
-use Rattle.std.proofs.lemmas.Int.{to_z-of_z}
-use mir.Syntax.{w64}
-use Rattle.tz_zone.specs.Clock.{IsClock}
-use Rattle.tz_zone.specs.ZoneRef.{zone_of}
-use Rattle.tz_query.specs.Nanoseconds.{number_of}
+use Rattle.tz_query.proofs.Common.{sym, subst, refl, arith, [], ◌∷◌, ◌++◌, inl, to_z-of_z, inr, w64, zone_of, codes, number_of, IsClock, Time}
 use Rattle.tz_query.proofs.AnswerLines.{clock_fault_text}
 use Rattle.tz_query.proofs.AddedText.{answer_written, time_answer_written}
-use Rattle.tz_query.specs.declared.query.read_query.Query.TheVariants.{Time}
 use Rattle.tz_query.proofs.query.answers.Answers.answer_by_lookup.Goals as goal
 
 pub fault_name-requires : goal.fault_name-requires

@@ -1,21 +1,11 @@
 -- What is found, or the name of a refusal.
-use Rattle.std.proofs.Common.{◌≡◌, ◌∷◌, [], ◌++◌, inl, inr, refl, sym, ap, subst, ◌∙◌, rules}
-use Rattle.std.specs.Prelude.{codes}
-use Rattle.std.specs.List.{All}
-use Rattle.std.proofs.lemmas.Result.{IfOk-weaker}
-use Rattle.tz_base.specs.declared.error.TzError.TheVariants.{DateTime, OutOfRange}
-use Rattle.tz_zone.specs.Clock.{IsClock}
+use Rattle.tz_query.proofs.Common.{sym, subst, refl, ◌≡◌, [], ap, ◌∷◌, ◌∙◌, ◌++◌, rules, inl, inr, ended, codes, number_of, Zone, IsClock, Search, IfOk-weaker, with_nanoseconds, All, IsSearchAnswer, OutOfRange, field_fault_text, found_lines, HasNanoseconds}
+use Rattle.tz_base.specs.declared.error.TzError.TheVariants.{DateTime}
 use Rattle.tz.specs.Lists.{found_of}
-use Rattle.tz_zone.specs.Table.{Zone}
 use Rattle.tz_zone.specs.ZoneOfData.{zone_of_data}
-use Rattle.tz_query.specs.Answers.{IsSearchAnswer, found_lines, field_fault_text}
-use Rattle.tz_query.specs.Lines.{ended}
-use Rattle.tz_query.specs.Nanoseconds.{HasNanoseconds, number_of, with_nanoseconds}
-use Rattle.tz_query.proofs.AddedText.{with_text}
+use Rattle.tz_query.proofs.AddedText.{with_text, answer_written}
 use Rattle.tz_query.proofs.AnswerLines.{told_field_fault, told_out_of_range}
 use Rattle.tz_query.proofs.EntryLines.{found_nanoseconds}
-use Rattle.tz_query.proofs.AddedText.{answer_written}
-use Rattle.tz_query.specs.declared.query.read_query.Query.TheVariants.{Search}
 use Rattle.tz_query.proofs.query.answers.Answers.answer_by_search.Goals as goal
 
 pub returns-in-Ok : goal.returns-in-Ok

@@ -1,23 +1,7 @@
 -- The lines of the entries are the answer.
-use Rattle.std.proofs.Common.{◌++◌, ◌∷◌, [], List, refl, sym, subst, rules}
+use Rattle.tz_query.proofs.Common.{sym, subst, refl, [], ◌∷◌, ◌++◌, rules, to_z-of_z, List, w64, zone_of, number_of, Zone, IsClock, Search, moment_text, IfOk-weaker, DateTime, with_nanoseconds, moment_of, found_lines, AreEntries, Normal, Shown, Skipped, reading, AreTypesIn, Entry, IsSearchable, IfMore, IsPositionOf, Jump}
 use Rattle.std.proofs.Math.Logic.{⊎_elim}
-use Rattle.std.proofs.lemmas.Int.{to_z-of_z}
-use Rattle.std.proofs.lemmas.Result.{IfOk-weaker}
-use mir.Syntax.{w64}
-use Rattle.tz_base.specs.Fields.{reading}
-use Rattle.tz_zone.specs.Clock.{IsClock}
-use Rattle.tz_zone.specs.Table.{Zone}
-use Rattle.tz_zone.specs.WindowTypes.{AreTypesIn, IfMore, IsPositionOf}
-use Rattle.tz_zone.specs.ZoneRef.{zone_of}
-use Rattle.tz.specs.DateTimes.{DateTime, moment_of}
 use Rattle.tz.specs.Ends.{HasEnds}
-use Rattle.tz.specs.Entries.{AreEntries, Entry, Jump, Shown}
-use Rattle.tz.specs.PrintedText.{moment_text}
-use Rattle.tz.specs.Windows.{IsSearchable}
-use Rattle.tz.specs.declared.datetime.found.FoundDateTimeKind.TheVariants.{Normal, Skipped}
-use Rattle.tz_query.specs.Answers.{found_lines}
-use Rattle.tz_query.specs.Nanoseconds.{number_of, with_nanoseconds}
-use Rattle.tz_query.specs.declared.query.read_query.Query.TheVariants.{Search}
 use Rattle.tz_query.proofs.AddedText.{adds_both, answer_written, with_text}
 use Rattle.tz_query.proofs.EntryLines.{answered_by, lines_of_two, shown_once}
 use Rattle.tz_query.proofs.query.answers.Answers.answer_by_types.Goals as goal

@@ -1,10 +1,5 @@
 -- A line of usual numbers is answered as it is read, and every other one by what it holds.
-use Rattle.std.proofs.Common.{inl, sym, subst, rules}
-use Rattle.std.proofs.lemmas.Int.{to_z-of_z}
-use Rattle.std.proofs.lemmas.List.{take_rest}
-use mir.Syntax.{w64}
-use Rattle.tz_query.specs.Lines.{IsFirstLine}
-use Rattle.tz_query.specs.declared.query.read_query.Query.TheVariants.{Time, Search}
+use Rattle.tz_query.proofs.Common.{sym, subst, rules, inl, to_z-of_z, w64, Search, Time, IsFirstLine, take_rest}
 use Rattle.tz_query.proofs.query.answers.Answers.answer_line.Goals as goal
 
 pub returns-in-Some : goal.returns-in-Some

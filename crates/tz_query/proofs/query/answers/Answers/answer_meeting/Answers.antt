@@ -1,20 +1,9 @@
 -- The number of weeks and then one more week at a time: by a search for its fields, or that it lies past the years of
 -- 32 bits.
-use Rattle.std.proofs.Common.{◌≡◌, ℕ, ◌++◌, ◌∷◌, [], List, length, inl, inr, refl, sym, subst, ap, ◌∙◌, arith, length-append, append-nil}
-use Rattle.std.specs.Prelude.{codes}
-use Rattle.std.specs.List.{flat_map}
-use Rattle.std.proofs.lemmas.List.{flat_map_more}
-use Rattle.tz_base.specs.declared.fields.Fields.{Fields}
-use Rattle.tz_zone.specs.ZoneRef.{zone_of}
-use Rattle.tz_query.specs.Lines.{ended}
-use Rattle.tz_query.specs.Answers.{IsSearchAnswer, IsWeekAnswer, field_fault_text, meeting_lines}
-use Rattle.tz_query.specs.Nanoseconds.{number_of, with_nanoseconds}
-use Rattle.tz_query.specs.Outputs.{Adds, written}
-use Rattle.tz_query.proofs.AddedText.{adds_both, with_text}
+use Rattle.tz_query.proofs.Common.{sym, subst, refl, arith, ◌≡◌, [], ap, ◌∷◌, ◌∙◌, ◌++◌, length, ℕ, inl, List, inr, zone_of, ended, Fields, codes, number_of, append-nil, Adds, flat_map, with_nanoseconds, IsSearchAnswer, Meeting, field_fault_text, written, IsWeekAnswer, length-append, meeting_lines, flat_map_more}
+use Rattle.tz_query.proofs.AddedText.{adds_both, with_text, answer_written}
 use Rattle.tz_query.proofs.OtherNanoseconds.{same_fields}
 use Rattle.tz_query.proofs.MeetingAnswers.{meeting_written, weeks_more}
-use Rattle.tz_query.proofs.AddedText.{answer_written}
-use Rattle.tz_query.specs.declared.query.read_query.Query.TheVariants.{Meeting}
 use Rattle.tz_query.proofs.query.answers.Answers.answer_meeting.Goals.{in-Some+in_ok-answer_search-in-Some, in-None+in_ok-push_error-in-None}
 use Rattle.tz_query.proofs.query.answers.Answers.answer_meeting.Goals as goal
 

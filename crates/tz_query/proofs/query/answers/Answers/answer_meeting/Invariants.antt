@@ -1,10 +1,5 @@
 -- The weeks so far have their answers after the line with their number.
-use Rattle.std.proofs.Common.{◌≡◌, ℕ, List, length}
-use Rattle.std.specs.List.{flat_map}
-use Rattle.tz_zone.specs.ZoneRef.{zone_of}
-use Rattle.tz_query.specs.Lines.{ended}
-use Rattle.tz_query.specs.Outputs.{Adds}
-use Rattle.tz_query.specs.Answers.{AreWeekAnswers}
+use Rattle.tz_query.proofs.Common.{◌≡◌, length, ℕ, List, zone_of, ended, Adds, flat_map, AreWeekAnswers}
 use Rattle.tz_query.proofs.query.answers.Answers.answer_meeting.Given as goal
 
 abbrev pub invariant-loop-weeks : goal.invariant-loop-weeks

@@ -1,19 +1,7 @@
 -- The clock has the type that is kept throughout the window, or what the search finds there is printed.
-use Rattle.std.proofs.Common.{◌-ℤ◌, ◌∷◌, [], refl, sym, subst, rules, arith}
-use Rattle.std.proofs.lemmas.Int.{ints, to_z-of_z}
-use Rattle.std.proofs.lemmas.Result.{IfOk-weaker}
-use mir.Syntax.{w64}
-use mir.Val.{SFits}
-use Rattle.tz_zone.specs.Clock.{IsClock}
-use Rattle.tz_zone.specs.Table.{Zone}
-use Rattle.tz_zone.specs.WindowTypes.{AreTypesIn}
-use Rattle.tz_zone.specs.ZoneRef.{zone_of}
+use Rattle.tz_query.proofs.Common.{sym, subst, refl, arith, [], ◌∷◌, rules, to_z-of_z, w64, zone_of, Zone, ints, IsClock, Search, IfOk-weaker, SFits, with_nanoseconds, AreEntries, Shown, AreTypesIn, IsSearchable, ◌-ℤ◌}
 use Rattle.tz_zone.specs.declared.clock.window_types.WindowTypes.{WindowTypes}
-use Rattle.tz.specs.Entries.{AreEntries, Shown}
-use Rattle.tz.specs.Windows.{IsSearchable}
 use Rattle.tz.proofs.EntryWalks.{entries_once}
-use Rattle.tz_query.specs.Nanoseconds.{with_nanoseconds}
-use Rattle.tz_query.specs.declared.query.read_query.Query.TheVariants.{Search}
 use Rattle.tz_query.proofs.AddedText.{answered_after}
 use Rattle.tz_query.proofs.EntryLines.{shown_once}
 use Rattle.tz_query.proofs.query.answers.Answers.answer_search.Goals as goal

@@ -1,11 +1,5 @@
 -- The type of the span that is kept, or that of a lookup.
-use Rattle.std.proofs.Common.{refl, sym, subst}
-use Rattle.std.proofs.lemmas.Int.{to_z-of_z}
-use mir.Syntax.{w64}
-use Rattle.tz_zone.specs.Clock.{IsClock}
-use Rattle.tz_zone.specs.ZoneRef.{zone_of}
-use Rattle.tz_query.specs.declared.query.read_query.Query.TheVariants.{Time}
-use Rattle.tz_query.specs.Nanoseconds.{number_of}
+use Rattle.tz_query.proofs.Common.{sym, subst, refl, to_z-of_z, w64, zone_of, number_of, IsClock, Time}
 use Rattle.tz_query.proofs.AddedText.{answered_after, time_answer_written}
 use Rattle.tz_query.proofs.query.answers.Answers.answer_time.Goals as goal
 

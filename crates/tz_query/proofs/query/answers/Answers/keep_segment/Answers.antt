@@ -1,11 +1,6 @@
 -- The clock has the segment's type throughout it.
-use Rattle.std.proofs.Common.{refl, ◌∙◌, sym, ap, subst, rules, ℤ, ◌≤ℤ◌}
-use Rattle.std.specs.Prelude.{option_copied}
-use Rattle.std.proofs.lemmas.Int.{to_z-of_z}
-use mir.Syntax.{w64}
+use Rattle.tz_query.proofs.Common.{sym, subst, refl, ap, ◌∙◌, rules, to_z-of_z, w64, zone_of, ℤ, IsClock, option_copied, ◌≤ℤ◌}
 use Rattle.tz_zone.specs.Changes.{HasTypeOrNone, segment_of}
-use Rattle.tz_zone.specs.Clock.{IsClock}
-use Rattle.tz_zone.specs.ZoneRef.{zone_of}
 use Rattle.tz_query.proofs.query.answers.Answers.keep_segment.Goals as goal
 
 pub returns-in-Some : goal.returns-in-Some

@@ -1,10 +1,5 @@
 -- The line of the entry.
-use Rattle.std.proofs.Common.{◌∷◌, [], sym, ap, ◌∙◌, append_assoc}
-use Rattle.std.proofs.lemmas.Result.{IfOk-weaker}
-use Rattle.tz.specs.DateTimes.{DateTime}
-use Rattle.tz.specs.PrintedText.{moment_text}
-use Rattle.tz_query.specs.Answers.{entry_text}
-use Rattle.tz_query.specs.Lines.{ended}
+use Rattle.tz_query.proofs.Common.{sym, [], ap, ◌∷◌, ◌∙◌, append_assoc, ended, moment_text, IfOk-weaker, DateTime, entry_text}
 use Rattle.tz_query.proofs.AddedText.{adds_joined, with_text}
 use Rattle.tz_query.proofs.query.answers.Answers.push_entry.Goals as goal
 

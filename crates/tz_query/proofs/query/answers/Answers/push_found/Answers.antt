@@ -1,13 +1,5 @@
 -- How much is found, and a line for each: one more entry is there after each turn.
-use Rattle.std.proofs.Common.{◌≡◌, ◌++◌, ◌∷◌, [], length, take, arith, refl, sym, ap, subst, ◌∙◌, append-nil, append_assoc, rules}
-use Rattle.std.proofs.Math.Seq.{take-length}
-use Rattle.std.specs.Prelude.{map, codes}
-use Rattle.std.specs.Fmt.{decimal}
-use Rattle.tz.specs.declared.datetime.found.FoundDateTimeKind.{FoundDateTimeKind}
-use Rattle.tz_query.specs.Answers.{entry_text}
-use Rattle.tz_query.specs.Lines.{line_feed, ended}
-use Rattle.tz_query.specs.Nanoseconds.{HasNanoseconds, number_of}
-use Rattle.tz_query.specs.Outputs.{Adds, written}
+use Rattle.tz_query.proofs.Common.{sym, subst, refl, arith, ◌≡◌, [], ap, ◌∷◌, ◌∙◌, ◌++◌, length, rules, append_assoc, take, ended, codes, number_of, line_feed, append-nil, Adds, entry_text, decimal, map, written, FoundDateTimeKind, HasNanoseconds, take-length}
 use Rattle.tz_query.proofs.AddedText.{adds_both, with_text}
 use Rattle.tz_query.proofs.AnswerLines.{entries_more}
 use Rattle.tz_query.proofs.query.answers.Answers.push_found.Goals as goal

@@ -1,15 +1,8 @@
 -- What is shown on both sides of the jump.
-use Rattle.std.proofs.Common.{◌+ℤ◌, ◌∷◌, inl, refl, sym, subst, rules}
-use Rattle.std.proofs.lemmas.Int.{to_z-of_z}
-use Rattle.std.proofs.lemmas.Result.{IfOk-weaker}
-use mir.Syntax.{w32, w64}
-use Rattle.tz_base.specs.Fields.{IsReading}
-use Rattle.tz.specs.DateTimes.{DateTime, ShowsInstant, moment_of}
-use Rattle.tz.specs.PrintedText.{moment_text}
+use Rattle.tz_query.proofs.Common.{sym, subst, refl, ◌∷◌, rules, inl, to_z-of_z, w64, number_of, moment_text, IfOk-weaker, w32, DateTime, moment_of, IsReading, ◌+ℤ◌, ShowsInstant}
 use Rattle.tz_query.proofs.AddedText.{adds_joined, with_text}
 use Rattle.tz_query.proofs.OtherNanoseconds.{civil_with}
 use Rattle.tz_query.proofs.EntryLines.{lines_of_jump}
-use Rattle.tz_query.specs.Nanoseconds.{number_of}
 use Rattle.tz_query.proofs.query.answers.Answers.push_jump.Goals as goal
 
 pub returns : goal.returns

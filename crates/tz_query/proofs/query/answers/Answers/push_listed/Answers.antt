@@ -1,11 +1,7 @@
 -- The line of the date time.
-use Rattle.std.proofs.Common.{◌++◌, ◌∷◌, [], ap}
-use Rattle.std.proofs.lemmas.Result.{IfOk-weaker}
-use Rattle.tz.specs.DateTimes.{DateTime}
-use Rattle.tz.specs.PrintedText.{moment_text}
+use Rattle.tz_query.proofs.Common.{[], ap, ◌∷◌, ◌++◌, number_of, moment_text, IfOk-weaker, DateTime}
 use Rattle.tz_query.proofs.AddedText.{with_text}
 use Rattle.tz_query.proofs.EntryLines.{made_again}
-use Rattle.tz_query.specs.Nanoseconds.{number_of}
 use Rattle.tz_query.proofs.query.answers.Answers.push_listed.Goals as goal
 
 pub returns-clause-text : goal.returns-clause-text

@@ -1,11 +1,5 @@
 -- The type that the lookup gives.
-use Rattle.std.proofs.Common.{subst}
-use Rattle.std.specs.Prelude.{IfOk, IfSome, Result, Ok, Err}
-use Rattle.std.specs.Result.{result_ok}
-use Rattle.std.proofs.lemmas.Int.{to_z-of_z}
-use mir.Syntax.{w64}
-use Rattle.tz_zone.specs.Clock.{IsClock}
-use Rattle.tz_zone.specs.ZoneRef.{zone_of}
+use Rattle.tz_query.proofs.Common.{subst, to_z-of_z, w64, zone_of, IsClock, Err, IfOk, Result, IfSome, Ok, result_ok}
 use Rattle.tz_query.proofs.query.answers.Answers.type_at.Goals as goal
 
 some_if_ok : {T E : Type 0} (r : Result T E) (P : T → Type 0) → IfOk r P → IfSome (result_ok r) P

@@ -1,14 +1,5 @@
 -- What the type shows, or that it is in no year of 32 bits.
-use Rattle.std.proofs.Common.{◌+ℤ◌, inl, inr, refl, sym, subst, rules}
-use Rattle.std.specs.Prelude.{codes}
-use Rattle.std.proofs.lemmas.Int.{to_z-of_z}
-use Rattle.std.proofs.lemmas.Result.{IfOk-weaker}
-use mir.Syntax.{w32, w64}
-use Rattle.tz_base.specs.Fields.{IsCivil, IsReading}
-use Rattle.tz_base.specs.declared.error.TzError.TheVariants.{OutOfRange}
-use Rattle.tz.specs.DateTimes.{DateTime, moment_of}
-use Rattle.tz.specs.PrintedText.{moment_text}
-use Rattle.tz_query.specs.Nanoseconds.{number_of}
+use Rattle.tz_query.proofs.Common.{sym, subst, refl, rules, inl, to_z-of_z, inr, w64, codes, number_of, moment_text, IfOk-weaker, w32, DateTime, IsCivil, OutOfRange, moment_of, IsReading, ◌+ℤ◌}
 use Rattle.tz_query.proofs.OtherNanoseconds.{civil_with}
 use Rattle.tz_query.proofs.query.output.Output.push_instant.Goals as goal
 

@@ -1,9 +1,5 @@
 -- The line of the date time ends the page.
-use Rattle.std.proofs.Common.{◌++◌, ◌∷◌, [], pos, sym, ◌∙◌, append_assoc}
-use Rattle.tz.specs.DateTimes.{moment_of}
-use Rattle.tz.specs.PrintedText.{moment_text}
-use Rattle.tz_query.specs.Lines.{line_feed}
-use Rattle.tz_query.specs.Nanoseconds.{with_nanoseconds}
+use Rattle.tz_query.proofs.Common.{sym, [], ◌∷◌, ◌∙◌, ◌++◌, append_assoc, pos, line_feed, moment_text, with_nanoseconds, moment_of}
 use Rattle.tz_query.proofs.query.output.Output.push_shown.Goals as goal
 
 pub returns-clause-ended : goal.returns-clause-ended

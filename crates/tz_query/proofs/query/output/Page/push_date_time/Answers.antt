@@ -1,10 +1,5 @@
 -- The year, what follows up to the nanoseconds, these, and the suffix make the line.
-use Rattle.std.proofs.Common.{◌++◌, ap, ◌∙◌, append_assoc, rules}
-use Rattle.std.specs.Fmt.{signed_decimal}
-use Rattle.std.proofs.lemmas.Int.{to_z-of_z}
-use mir.Syntax.{w32}
-use Rattle.tz.specs.PrintedText.{middle_text, suffix_text}
-use Rattle.tz_query.specs.Nanoseconds.{number_of}
+use Rattle.tz_query.proofs.Common.{ap, ◌∙◌, ◌++◌, rules, to_z-of_z, append_assoc, number_of, w32, signed_decimal, suffix_text, middle_text}
 use Rattle.tz_query.proofs.PageLines.{line_text}
 use Rattle.tz_query.proofs.query.output.Page.push_date_time.Goals as goal
 

@@ -1,6 +1,5 @@
 -- The three pieces make the line.
-use Rattle.std.proofs.Common.{◌≡◌, ◌+◌, ◌-◌, ◌≤◌, ◌++◌, take, length, ap, ◌∙◌, arith, rules}
-use Rattle.tz.specs.PrintedText.{suffix_text}
+use Rattle.tz_query.proofs.Common.{arith, ◌≡◌, ap, ◌∙◌, ◌++◌, length, rules, ◌+◌, take, ◌≤◌, ◌-◌, suffix_text}
 use Rattle.tz_query.proofs.PageLines.{three_pieces}
 use Rattle.tz_query.proofs.query.output.Page.push_rest.Goals as goal
 

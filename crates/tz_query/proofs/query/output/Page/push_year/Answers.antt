@@ -1,8 +1,5 @@
 -- A year of four digits is a number of four digits.
-use Rattle.std.proofs.Common.{◌≡◌, ◌++◌, pos, arith, sym, ap, ◌∙◌, append_assoc, rules}
-use Rattle.std.specs.Fmt.{signed_decimal}
-use Rattle.std.proofs.lemmas.Int.{ints, to_z-of_z}
-use mir.Syntax.{w32}
+use Rattle.tz_query.proofs.Common.{sym, arith, ◌≡◌, ap, ◌∙◌, ◌++◌, rules, to_z-of_z, append_assoc, pos, ints, w32, signed_decimal}
 use Rattle.tz_query.proofs.query.output.Page.push_year.Goals.{then-year-lt1000, else-year-lt1000}
 use Rattle.tz_query.proofs.query.output.Page.push_year.Goals as goal
 

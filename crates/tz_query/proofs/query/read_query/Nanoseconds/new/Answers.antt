@@ -1,6 +1,5 @@
 -- The text is the nine digits of the number, whose value is that number.
-use Rattle.std.proofs.Common.{◌≡◌, ◌++◌, ◌∙◌, ap}
-use Rattle.tz.specs.PrintedText.{nine_digits}
+use Rattle.tz_query.proofs.Common.{◌≡◌, ap, ◌∙◌, ◌++◌, nine_digits}
 use Rattle.tz_query.proofs.NineDigits.{value_of_nine_digits, nine_of_their_value}
 use Rattle.tz_query.proofs.query.read_query.Nanoseconds.new.Goals as goal
 

@@ -1,6 +1,5 @@
 -- The digits are all nine.
-use Rattle.std.proofs.Common.{arith}
-use Rattle.tz_query.specs.Nanoseconds.{number_of}
+use Rattle.tz_query.proofs.Common.{arith, number_of}
 use Rattle.tz_query.proofs.NineDigits.{value_of_nine}
 use Rattle.tz_query.proofs.query.read_query.Nanoseconds.number.Goals as goal
 

@@ -1,7 +1,5 @@
 -- The switch next to the instant is the change.
-use Rattle.std.proofs.Common.{arith, rules}
-use Rattle.std.proofs.lemmas.Int.{ints, to_z-of_z}
-use mir.Syntax.{w64}
+use Rattle.tz_rule.proofs.Common.{arith, ints, to_z-of_z, rules, w64}
 use Rattle.tz_rule.proofs.RuleWalks.{switch_is_change_after}
 use Rattle.tz_rule.proofs.timezone.alternate_time.AlternateData.change_after.Goals as goal
 

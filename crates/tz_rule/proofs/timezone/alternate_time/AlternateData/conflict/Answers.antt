@@ -1,6 +1,5 @@
 -- The tables are those of the rule's starts and ends, and at distances of two years or more their order never changes.
-use Rattle.std.proofs.lemmas.Int.{to_z-of_z}
-use mir.Syntax.{w32}
+use Rattle.tz_rule.proofs.Common.{to_z-of_z, w32}
 use Rattle.tz_rule.proofs.RuleConflicts.{rule_conflict, no_rule_conflict}
 use Rattle.tz_rule.proofs.timezone.alternate_time.AlternateData.conflict.Goals as goal
 

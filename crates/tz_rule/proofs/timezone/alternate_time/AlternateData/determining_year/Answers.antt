@@ -1,7 +1,5 @@
 -- Two years before the year of the instant all switches are over, and two years after it they are yet to come.
-use Rattle.std.proofs.Common.{◌≡◌, arith, pos, ◌+ℤ◌, ◌-ℤ◌, to_z, of_z}
-use Rattle.std.proofs.lemmas.Int.{ints, to_z-of_z}
-use mir.Syntax.{w32, w64}
+use Rattle.tz_rule.proofs.Common.{arith, ◌≡◌, ints, pos, ◌+ℤ◌, to_z-of_z, ◌-ℤ◌, w64, w32, of_z, to_z}
 use Rattle.tz_rule.proofs.RuleSegments.{determining_before, determining_after}
 use Rattle.tz_rule.proofs.timezone.alternate_time.AlternateData.determining_year.Goals as goal
 

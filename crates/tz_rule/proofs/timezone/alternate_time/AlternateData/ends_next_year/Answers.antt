@@ -1,5 +1,5 @@
 -- The pairing that is kept is that of the parts.
-use Rattle.tz_rule.specs.Parts.{rule_of}
+use Rattle.tz_rule.proofs.Common.{rule_of}
 use Rattle.tz_rule.proofs.RulesAcrossYears.{MatchBool-ends_come_first}
 use Rattle.tz_rule.proofs.timezone.alternate_time.AlternateData.ends_next_year.Goals as goal
 

@@ -1,5 +1,5 @@
 -- The flag that is kept is that of the parts.
-use Rattle.tz_rule.specs.Parts.{rule_of}
+use Rattle.tz_rule.proofs.Common.{rule_of}
 use Rattle.tz_rule.proofs.InnerSwitches.{HasInnerSwitches-from}
 use Rattle.tz_rule.proofs.timezone.alternate_time.AlternateData.has_inner_switches.Goals as goal
 

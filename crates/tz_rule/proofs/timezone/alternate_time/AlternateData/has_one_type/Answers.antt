@@ -1,6 +1,5 @@
 -- The rule has no daylight saving time, or nothing else, as the tables say.
-use Rattle.std.proofs.Common.{◌∙◌, sym}
-use Rattle.tz_rule.specs.Same.{Decides-same_type}
+use Rattle.tz_rule.proofs.Common.{◌∙◌, sym, Decides-same_type}
 use Rattle.tz_rule.proofs.RulesOfOneType.{one_type_of_equal, one_type_across_years, one_type_in_order, one_type_without_gap}
 use Rattle.tz_rule.proofs.WeakerClauses.{OnTrue-not}
 use Rattle.tz_rule.proofs.timezone.alternate_time.AlternateData.has_one_type.Goals as goal

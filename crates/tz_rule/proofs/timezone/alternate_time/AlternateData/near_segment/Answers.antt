@@ -1,7 +1,5 @@
 -- The likely year is one whose switches determine the segment, if they are far inside their years.
-use Rattle.std.proofs.Common.{true, false}
-use Rattle.std.proofs.lemmas.Int.{to_z-of_z}
-use mir.Syntax.{w64}
+use Rattle.tz_rule.proofs.Common.{to_z-of_z, w64, true, false}
 use Rattle.tz_rule.proofs.InnerSwitches.{determining_if_likely}
 use Rattle.tz_rule.proofs.RuleSegments.{tried_segment}
 use Rattle.tz_rule.proofs.timezone.alternate_time.AlternateData.near_segment.Goals as goal

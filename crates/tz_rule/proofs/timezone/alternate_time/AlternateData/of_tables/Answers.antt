@@ -1,5 +1,5 @@
 -- What is kept obeys the rules of its making.
-use Rattle.std.proofs.Common.{rules}
+use Rattle.tz_rule.proofs.Common.{rules}
 use Rattle.tz_rule.proofs.OrderByTables.{rule_is_consistent}
 use Rattle.tz_rule.proofs.RulesAcrossYears.{kept_from}
 use Rattle.tz_rule.proofs.timezone.alternate_time.AlternateData.of_tables.Goals as goal

@@ -1,11 +1,6 @@
 -- No change is between the instant and the end of the segment to which the walk has come, and the rule has its type
 -- there.
-use Rattle.std.proofs.Common.{pos, ◌-ℤ◌, ◌≤ℤ◌}
-use Rattle.std.specs.Prelude.{unsigned_abs}
-use mir.Syntax.{w64}
-use mir.Val.{SFits}
-use Rattle.tz_rule.specs.RuleChanges.{HasNoTypeChange}
-use Rattle.tz_rule.specs.declared.timezone.transition_rule.TransitionRule.TheVariants.{Alternate}
+use Rattle.tz_rule.proofs.Common.{pos, ◌≤ℤ◌, ◌-ℤ◌, w64, Alternate, HasNoTypeChange, SFits, unsigned_abs}
 use Rattle.tz_rule.proofs.RuleWalks.{HasTypeOrNone}
 use Rattle.tz_rule.proofs.timezone.alternate_time.AlternateData.outer_change_after.Given as goal
 

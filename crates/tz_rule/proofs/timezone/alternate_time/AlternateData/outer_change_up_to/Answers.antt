@@ -1,9 +1,5 @@
 -- Segment for segment, to the last change or to the least instant.
-use Rattle.std.proofs.Common.{◌≡◌, arith, rules, pos, ◌-ℤ◌, to_z, of_z}
-use Rattle.std.proofs.lemmas.Int.{ints, to_z-of_z}
-use mir.Syntax.{w64}
-use Rattle.tz_rule.specs.RuleChanges.{type_change_of}
-use Rattle.tz_rule.specs.declared.timezone.transition_rule.TransitionRule.TheVariants.{Alternate}
+use Rattle.tz_rule.proofs.Common.{arith, ◌≡◌, ints, pos, to_z-of_z, ◌-ℤ◌, rules, w64, Alternate, of_z, to_z, type_change_of}
 use Rattle.tz_rule.proofs.RuleWalks.{none_within, none_joined, is_change_up_to}
 use Rattle.tz_rule.proofs.timezone.alternate_time.AlternateData.outer_change_up_to.Goals as goal
 

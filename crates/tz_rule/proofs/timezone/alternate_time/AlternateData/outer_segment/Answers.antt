@@ -1,6 +1,5 @@
 -- Rules are undefined at the instant.
-use Rattle.std.proofs.lemmas.Int.{to_z-of_z}
-use mir.Syntax.{w64}
+use Rattle.tz_rule.proofs.Common.{to_z-of_z, w64}
 use Rattle.tz_rule.proofs.timezone.alternate_time.AlternateData.outer_segment.Goals as goal
 
 pub returns-in-None : goal.returns-in-None

@@ -1,7 +1,5 @@
 -- The last instant is the one before the end of the segment.
-use Rattle.std.proofs.Common.{◌≡◌, arith, rules, pos, ◌+ℤ◌, ◌-ℤ◌, to_z, of_z}
-use Rattle.std.proofs.lemmas.Int.{ints, to_z-of_z}
-use mir.Syntax.{w64}
+use Rattle.tz_rule.proofs.Common.{arith, ◌≡◌, ints, pos, ◌+ℤ◌, to_z-of_z, ◌-ℤ◌, rules, w64, of_z, to_z}
 use Rattle.tz_rule.proofs.timezone.alternate_time.AlternateData.rule_segment.Goals as goal
 
 pub returns : goal.returns

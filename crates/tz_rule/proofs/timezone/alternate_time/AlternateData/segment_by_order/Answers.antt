@@ -1,9 +1,6 @@
 -- What is between two of the starts and ends of the year and its neighbours has one type, and holds the instant if the
 -- year determines the segment.
-use Rattle.std.proofs.Common.{◌≡◌, ◌+◌, ◌-◌, refl, arith, rules, pos, ◌+ℤ◌, ◌-ℤ◌, ◌∙◌}
-use Rattle.std.proofs.lemmas.Int.{ints, to_z-of_z}
-use mir.Syntax.{w64}
-use Rattle.tz_rule.specs.LikelyYears.{moved_back}
+use Rattle.tz_rule.proofs.Common.{arith, ◌≡◌, ints, pos, ◌∙◌, refl, ◌+ℤ◌, to_z-of_z, ◌-ℤ◌, rules, w64, ◌+◌, ◌-◌, moved_back}
 use Rattle.tz_rule.proofs.RuleSegments.{years_around, segment_between_years, segment_in_year}
 use Rattle.tz_rule.proofs.timezone.alternate_time.AlternateData.segment_by_order.Goals as goal
 

@@ -1,8 +1,5 @@
 -- The segment is cut where the years of rules begin and end.
-use Rattle.std.proofs.Common.{◌≡◌, arith, rules, ◌∙◌}
-use Rattle.std.proofs.lemmas.Int.{ints, clamps, to_z-of_z}
-use mir.Syntax.{w32, w64}
-use Rattle.tz_rule.specs.LikelyYears.{moved_back}
+use Rattle.tz_rule.proofs.Common.{arith, ◌≡◌, ints, ◌∙◌, to_z-of_z, rules, w64, w32, moved_back, clamps}
 use Rattle.tz_rule.proofs.RuleSegments.{IsInRuleYears-bounds, cut_segment}
 use Rattle.tz_rule.proofs.timezone.alternate_time.AlternateData.segment_in_year.Goals as goal
 

@@ -1,8 +1,5 @@
 -- The table has the instant of the year.
-use Rattle.std.proofs.Common.{◌∙◌, rules}
-use Rattle.std.proofs.lemmas.Int.{to_z-of_z}
-use mir.Syntax.{w64}
-use Rattle.tz_rule.specs.LikelyYears.{moved_back}
+use Rattle.tz_rule.proofs.Common.{◌∙◌, to_z-of_z, rules, w64, moved_back}
 use Rattle.tz_rule.proofs.YearsApart.{instant_in-is}
 use Rattle.tz_rule.proofs.timezone.alternate_time.AlternateData.switch_in_moved.Goals as goal
 

@@ -1,7 +1,5 @@
 -- The types passed the test of being different.
-use Rattle.std.proofs.Common.{sym, ◌∙◌}
-use Rattle.std.proofs.lemmas.Bool.{false≢true}
-use Rattle.tz_rule.specs.Same.{Decides-same_type}
+use Rattle.tz_rule.proofs.Common.{◌∙◌, sym, Decides-same_type, false≢true}
 use Rattle.tz_rule.proofs.timezone.alternate_time.AlternateData.switches_around.Goals as goal
 
 pub returns-then-ends_next_year-clause-differ : goal.returns-then-ends_next_year-clause-differ

@@ -1,8 +1,5 @@
 -- The switches of the year, of the one before and of the next one determine those on both sides of the instant.
-use Rattle.std.proofs.Common.{◌≡◌, ◌∙◌, arith, rules, ◌+◌, ◌-◌, pos, ◌+ℤ◌, ◌-ℤ◌}
-use Rattle.std.proofs.lemmas.Int.{ints, to_z-of_z}
-use mir.Syntax.{w64}
-use Rattle.tz_rule.specs.LikelyYears.{moved_back}
+use Rattle.tz_rule.proofs.Common.{arith, ◌≡◌, ints, pos, ◌∙◌, ◌+ℤ◌, to_z-of_z, ◌-ℤ◌, rules, w64, ◌+◌, ◌-◌, moved_back}
 use Rattle.tz_rule.proofs.RuleSwitches.{switch_before_first, switch_before_second, switch_of_next_year, switch_from_second, switch_from_first, switch_of_last_year}
 use Rattle.tz_rule.proofs.WeakerClauses.{IfSome-weaker}
 use Rattle.tz_rule.proofs.timezone.alternate_time.AlternateData.switches_by_order.Goals as goal

@@ -1,7 +1,5 @@
 -- If starts and ends change their order, the rule is inconsistent.
-use Rattle.std.proofs.Common.{refl, inr}
-use Rattle.std.proofs.lemmas.Int.{to_z-of_z}
-use mir.Syntax.{w32}
+use Rattle.tz_rule.proofs.Common.{refl, to_z-of_z, inr, w32}
 use Rattle.tz_rule.proofs.OrderByTables.{rule_is_inconsistent}
 use Rattle.tz_rule.proofs.timezone.alternate_time.AlternateTime.new.Goals as goal
 

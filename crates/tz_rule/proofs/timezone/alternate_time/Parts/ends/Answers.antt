@@ -1,7 +1,5 @@
 -- The local time is moved by the offset.
-use Rattle.std.proofs.Common.{ap, ◌∙◌, arith}
-use Rattle.std.proofs.lemmas.Int.{ints}
-use Rattle.tz_rule.specs.YearTables.{end_table, day_table}
+use Rattle.tz_rule.proofs.Common.{arith, ints, ◌∙◌, ap, end_table, day_table}
 use Rattle.tz_rule.proofs.timezone.alternate_time.Parts.ends.Goals as goal
 
 pub returns-clause-table : goal.returns-clause-table

@@ -1,7 +1,5 @@
 -- The local time is moved by the offset.
-use Rattle.std.proofs.Common.{ap, ◌∙◌, arith}
-use Rattle.std.proofs.lemmas.Int.{ints}
-use Rattle.tz_rule.specs.YearTables.{start_table, day_table}
+use Rattle.tz_rule.proofs.Common.{arith, ints, ◌∙◌, ap, start_table, day_table}
 use Rattle.tz_rule.proofs.timezone.alternate_time.Parts.starts.Goals as goal
 
 pub returns-clause-table : goal.returns-clause-table

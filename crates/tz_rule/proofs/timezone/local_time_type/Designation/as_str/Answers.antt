@@ -1,8 +1,7 @@
 -- A name is ASCII, so it is a text; so is no byte at all.
-use Rattle.std.proofs.Common.{ℕ, zero, suc, ◌<◌, ◌≤◌, List, take, arith, All}
+use Rattle.tz_rule.proofs.Common.{arith, ℕ, ◌<◌, List, ◌≤◌, suc, zero, IsDesignationByte, All, IsDesignation, take}
 use Rattle.std.proofs.lemmas.Str.{IsUtf8-from_ascii}
 use Rattle.std.proofs.lemmas.Str.Ascii.{IsAscii-from_all}
-use Rattle.tz_rule.specs.LocalTimeType.{IsDesignation, IsDesignationByte}
 use Rattle.tz_rule.proofs.timezone.local_time_type.Designation.as_str.Goals as goal
 
 designation_byte_below : (b : ℕ) → IsDesignationByte b → b < 128

@@ -1,6 +1,5 @@
 -- The bytes so far are those of the name, and may stand in one.
-use Rattle.std.proofs.Common.{◌≡◌, ◌-◌, ℕ, ◌<◌, ◌≤◌, length, get_or}
-use Rattle.tz_rule.specs.LocalTimeType.{IsDesignationByte}
+use Rattle.tz_rule.proofs.Common.{◌≡◌, ℕ, ◌<◌, ◌-◌, ◌≤◌, get_or, length, IsDesignationByte}
 use Rattle.tz_rule.proofs.timezone.local_time_type.Designation.new.Given as goal
 
 abbrev pub invariant-loop-index : goal.invariant-loop-index

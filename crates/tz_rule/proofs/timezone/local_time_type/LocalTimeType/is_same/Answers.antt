@@ -1,9 +1,5 @@
 -- Types are equal if all that is stored is.
-use Rattle.std.proofs.Common.{rules, arith, ◌≡◌, ◌∙◌, sym}
-use Rattle.std.proofs.lemmas.Bool.{eqb-true}
-use Rattle.std.proofs.lemmas.Int.{ints, to_z-of_z}
-use mir.Syntax.{w32}
-use Rattle.tz_rule.specs.Same.{Decides-beq}
+use Rattle.tz_rule.proofs.Common.{arith, ◌≡◌, ints, ◌∙◌, sym, to_z-of_z, rules, w32, Decides-beq, eqb-true}
 use Rattle.tz_rule.proofs.KeptEquality.{same_type-shown}
 use Rattle.tz_rule.proofs.timezone.local_time_type.LocalTimeType.is_same.Goals as goal
 use Rattle.tz_rule.proofs.timezone.local_time_type.LocalTimeType.is_same.Goals.{then-self-other, else-self-other}

@@ -1,12 +1,6 @@
 -- The day in the month is added to the days before the month.
-use Rattle.std.proofs.Common.{◌≡◌, ◌∙◌, ◌+◌, ◌-◌, ◌%◌, ◌≤◌, refl, sym, ap, inl, inr, get_or, arith, rules}
-use Rattle.std.proofs.lemmas.Bool.{cases_lt}
+use Rattle.tz_rule.proofs.Common.{arith, ◌≡◌, ◌∙◌, refl, sym, ap, rules, ◌+◌, ◌-◌, inl, inr, ◌≤◌, ◌%◌, get_or, year_day_of, cases_lt, IsMonthWeek, MonthWeek, MonthWeekDay, month_length-ge, month_length-le, nth_week_day, week_day_in_month, get_or-set_other, month_week}
 use Rattle.std.proofs.lemmas.Grind.{get_or-set_at}
-use Rattle.std.proofs.lemmas.List.{get_or-set_other}
-use Rattle.tz_base.proofs.CivilReadings.{month_length-ge, month_length-le}
-use Rattle.tz_rule.specs.MonthWeek.{MonthWeek, IsMonthWeek, month_week}
-use Rattle.tz_rule.specs.YearDays.{nth_week_day, week_day_in_month, year_day_of}
-use Rattle.tz_rule.specs.declared.timezone.rule_day.RuleDay.TheVariants.{MonthWeekDay}
 use Rattle.tz_rule.proofs.DaysOfWeeks.{least_day, day_within, year_day_before, first_before}
 use Rattle.tz_rule.proofs.DaysOfYears.{year_day_of-bound}
 use Rattle.tz_rule.proofs.timezone.rule_day.MonthWeekDay.year_days.Goals as goal

@@ -1,6 +1,5 @@
 -- The days so far are those of their week days, and the next one is kept, among the seven of its week.
-use Rattle.std.proofs.Common.{◌≡◌, ℕ, ◌+◌, ◌-◌, ◌%◌, ◌<◌, ◌≤◌, length, get_or}
-use Rattle.tz_rule.specs.YearDays.{nth_week_day}
+use Rattle.tz_rule.proofs.Common.{◌≡◌, ℕ, ◌<◌, ◌+◌, ◌-◌, ◌≤◌, ◌%◌, get_or, length, nth_week_day}
 use Rattle.tz_rule.proofs.timezone.rule_day.MonthWeekDay.year_days.Given as goal
 
 abbrev pub invariant-loop-week_day : goal.invariant-loop-week_day

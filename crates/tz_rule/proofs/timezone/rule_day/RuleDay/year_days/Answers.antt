@@ -1,7 +1,5 @@
 -- Days that have a number of their own are at one day, whatever the week day.
-use Rattle.std.proofs.Common.{◌≡◌, ℕ, ◌<◌, [], ◌∷◌, get_or, ◌∙◌}
-use Rattle.std.proofs.lemmas.List.{get_or-replicate}
-use Rattle.tz_rule.specs.YearDays.{year_day_of}
+use Rattle.tz_rule.proofs.Common.{◌≡◌, ◌∙◌, ℕ, ◌<◌, get_or, year_day_of, [], ◌∷◌, get_or-replicate}
 use Rattle.tz_rule.proofs.timezone.rule_day.RuleDay.year_days.Goals as goal
 
 seven_times : (x i : ℕ) → i < 7 → get_or {A = ℕ} (x ∷ x ∷ x ∷ x ∷ x ∷ x ∷ x ∷ []) i 0 ≡ x

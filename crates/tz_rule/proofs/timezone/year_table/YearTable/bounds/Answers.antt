@@ -1,9 +1,5 @@
 -- One kind more.
-use Rattle.std.proofs.Common.{◌≡◌, ◌≤ℤ◌, refl, sym, ap, ◌∙◌, arith, rules, below_more, to_z, of_z}
-use Rattle.std.specs.Int.{int_min, int_max}
-use Rattle.std.proofs.lemmas.Int.{ints, clamps, to_z-of_z}
-use mir.Syntax.{w32}
-use Rattle.tz_rule.specs.YearTables.{entry, least_entry, greatest_entry}
+use Rattle.tz_rule.proofs.Common.{arith, ◌≡◌, ints, ◌∙◌, refl, sym, to_z-of_z, ◌≤ℤ◌, ap, rules, entry, w32, of_z, to_z, greatest_entry, least_entry, clamps, int_max, int_min, below_more}
 use Rattle.tz_rule.proofs.InnerSwitches.{least_entry-next, greatest_entry-next}
 use Rattle.tz_rule.proofs.timezone.year_table.YearTable.bounds.Goals as goal
 
@@ -45,12 +41,11 @@ loop-kind-preserved c =
       greatest = greatest ∙ greatest_is ∙ sym (greatest_entry-next table kind);
     }
 
-pub returns-clause-least : goal.returns-clause-least
-returns-clause-least c =
+pub returns : goal.returns
+returns c =
     let all : c.loop-kind.kind ≡ 14 = omega arith in
-    rw all at c.loop-kind.invariant.least
-
-pub returns-clause-greatest : goal.returns-clause-greatest
-returns-clause-greatest c =
-    let all : c.loop-kind.kind ≡ 14 = omega arith in
-    rw all at c.loop-kind.invariant.greatest
+    record {
+      bounds = search rules;
+      least = rw all at c.loop-kind.invariant.least;
+      greatest = rw all at c.loop-kind.invariant.greatest;
+    }

@@ -1,6 +1,5 @@
 -- The bounds so far are those of the kinds so far.
-use Rattle.std.proofs.Common.{◌≡◌, ◌-◌, ℕ, ◌<◌, ◌≤◌, ◌≤ℤ◌}
-use Rattle.tz_rule.specs.YearTables.{entry, least_entry, greatest_entry}
+use Rattle.tz_rule.proofs.Common.{◌≡◌, ℕ, ◌<◌, ◌≤ℤ◌, ◌-◌, entry, ◌≤◌, greatest_entry, least_entry}
 use Rattle.tz_rule.proofs.timezone.year_table.YearTable.bounds.Given as goal
 
 abbrev pub invariant-loop-kind : goal.invariant-loop-kind

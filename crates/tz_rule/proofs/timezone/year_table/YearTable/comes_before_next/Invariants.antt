@@ -1,7 +1,5 @@
 -- In no pair kind so far does the instant come before the other one of the next year.
-use Rattle.std.proofs.Common.{ℕ, ◌-◌, ◌<◌, ◌≤ℤ◌}
-use Rattle.tz_rule.specs.Kinds.{first_kind}
-use Rattle.tz_rule.specs.YearTables.{entry, next_entry}
+use Rattle.tz_rule.proofs.Common.{ℕ, ◌<◌, ◌≤ℤ◌, ◌-◌, entry, first_kind, next_entry}
 use Rattle.tz_rule.proofs.timezone.year_table.YearTable.comes_before_next.Given as goal
 
 abbrev pub invariant-loop-pair : goal.invariant-loop-pair

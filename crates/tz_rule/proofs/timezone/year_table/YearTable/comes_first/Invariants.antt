@@ -1,6 +1,5 @@
 -- In the years of no kind so far does the instant come before the other one.
-use Rattle.std.proofs.Common.{ℕ, ◌-◌, ◌<◌, ◌≤ℤ◌}
-use Rattle.tz_rule.specs.YearTables.{entry}
+use Rattle.tz_rule.proofs.Common.{ℕ, ◌<◌, ◌≤ℤ◌, ◌-◌, entry}
 use Rattle.tz_rule.proofs.timezone.year_table.YearTable.comes_first.Given as goal
 
 abbrev pub invariant-loop-kind : goal.invariant-loop-kind

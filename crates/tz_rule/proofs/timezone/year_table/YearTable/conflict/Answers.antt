@@ -1,5 +1,5 @@
 -- All distances that are near were tried.
-use Rattle.tz_rule.specs.YearTables.{instant_in}
+use Rattle.tz_rule.proofs.Common.{instant_in}
 use Rattle.tz_rule.proofs.WeakerClauses.{IfNone-weaker}
 use Rattle.tz_rule.proofs.YearlyInstants.{none_near}
 use Rattle.tz_rule.proofs.timezone.year_table.YearTable.conflict.Goals as goal

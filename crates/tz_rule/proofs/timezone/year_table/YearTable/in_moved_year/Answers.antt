@@ -1,7 +1,5 @@
 -- The entry of the year's kind is added to January 1st.
-use Rattle.std.proofs.Common.{ap, arith}
-use Rattle.std.proofs.lemmas.Int.{ints}
-use Rattle.tz_rule.specs.YearTables.{instant_in, entry}
+use Rattle.tz_rule.proofs.Common.{arith, ints, ap, entry, instant_in}
 use Rattle.tz_rule.proofs.timezone.year_table.YearTable.in_moved_year.Goals as goal
 
 pub returns : goal.returns

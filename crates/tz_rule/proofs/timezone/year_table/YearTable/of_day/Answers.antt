@@ -1,7 +1,5 @@
 -- All entries are made.
-use Rattle.std.proofs.Common.{arith}
-use Rattle.std.proofs.lemmas.Int.{to_z-of_z}
-use mir.Syntax.{w32}
+use Rattle.tz_rule.proofs.Common.{arith, to_z-of_z, w32}
 use Rattle.tz_rule.proofs.TablesOfDays.{day_table-from}
 use Rattle.tz_rule.proofs.timezone.year_table.YearTable.of_day.Goals as goal
 

@@ -1,6 +1,5 @@
 -- The entries so far are those of their kinds.
-use Rattle.std.proofs.Common.{◌≡◌, ◌-◌, ℕ, ◌+◌, ◌*◌, ◌<◌, length, get_or, pos, ◌+ℤ◌}
-use Rattle.tz_rule.specs.YearTables.{entry}
+use Rattle.tz_rule.proofs.Common.{◌≡◌, pos, ℕ, ◌+ℤ◌, ◌<◌, ◌+◌, ◌-◌, entry, get_or, length, ◌*◌}
 use Rattle.tz_rule.proofs.timezone.year_table.YearTable.of_day.Given as goal
 
 abbrev pub invariant-loop-week_day : goal.invariant-loop-week_day

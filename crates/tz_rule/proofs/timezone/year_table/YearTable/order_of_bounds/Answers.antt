@@ -1,8 +1,5 @@
 -- Bounds that are apart determine the order in each kind of years, and between neighbours.
-use Rattle.std.proofs.Common.{inl, inr, arith, rules}
-use Rattle.std.proofs.lemmas.Int.{ints, to_z-of_z}
-use mir.Syntax.{w32}
-use Rattle.tz_rule.specs.YearTables.{ComesFirst}
+use Rattle.tz_rule.proofs.Common.{arith, ints, to_z-of_z, rules, inl, inr, w32, ComesFirst}
 use Rattle.tz_rule.proofs.ApartBounds.{never_first, comes_first, no_order_changes}
 use Rattle.tz_rule.proofs.timezone.year_table.YearTable.order_of_bounds.Goals as goal
 

@@ -1,7 +1,5 @@
 -- The years that are compared stand for all years.
-use Rattle.std.proofs.Common.{arith}
-use Rattle.std.proofs.lemmas.Int.{to_z-of_z}
-use mir.Syntax.{w32}
+use Rattle.tz_rule.proofs.Common.{arith, to_z-of_z, w32}
 use Rattle.tz_rule.proofs.YearsApart.{not_before}
 use Rattle.tz_rule.proofs.timezone.year_table.YearTable.year_before.Goals as goal
 

@@ -1,6 +1,5 @@
 -- In none of the years so far does the instant come before the other one at the distance.
-use Rattle.std.proofs.Common.{ℕ, ◌-◌, ◌+◌, ◌<◌, pos, ◌+ℤ◌, ◌≤ℤ◌}
-use Rattle.tz_rule.specs.YearTables.{instant_in}
+use Rattle.tz_rule.proofs.Common.{pos, ℕ, ◌+ℤ◌, ◌<◌, ◌≤ℤ◌, ◌+◌, ◌-◌, instant_in}
 use Rattle.tz_rule.proofs.timezone.year_table.YearTable.year_before.Given as goal
 
 abbrev pub invariant-loop-index : goal.invariant-loop-index

@@ -1,5 +1,4 @@
-use Rattle.std.specs.Fn.{FnReturnsAt}
-use Rattle.tz_zone.specs.SettingsParts.{reader_of}
+use Rattle.tz_zone.proofs.Common.{FnReturnsAt, reader_of}
 use Rattle.tz_zone.proofs.Directories.{found_here, missed_here}
 use Rattle.tz_zone.proofs.timezone.settings.TimeZoneSettings.find_in_directories.Goals as goal
 

@@ -1,7 +1,5 @@
 -- What can be found from here on can be found from all directories.
-use Rattle.std.proofs.Common.{drop}
-use Rattle.std.specs.Fn.{FnReturnsAt}
-use Rattle.tz_zone.specs.Settings.{Read, FindsIn, texts_of}
+use Rattle.tz_zone.proofs.Common.{FnReturnsAt, drop, FindsIn, Read, texts_of}
 use Rattle.tz_zone.proofs.timezone.settings.TimeZoneSettings.find_in_directories.Given as goal
 
 abbrev pub invariant-loop-directory : goal.invariant-loop-directory

@@ -1,8 +1,5 @@
 -- An absolute name is a path, and any other one is looked for in the directories.
-use Rattle.std.proofs.Common.{refl}
-use Rattle.std.proofs.lemmas.Bool.{false≢true}
-use Rattle.std.specs.Fn.{FnReturnsAt}
-use Rattle.tz_zone.specs.SettingsParts.{directories_of, reader_of}
+use Rattle.tz_zone.proofs.Common.{refl, false≢true, FnReturnsAt, reader_of, directories_of}
 use Rattle.tz_zone.proofs.Directories.{found_for, read_for}
 use Rattle.tz_zone.proofs.timezone.settings.TimeZoneSettings.find_readable.Goals as goal
 

@@ -1,9 +1,5 @@
 -- What is found is opened, and where nothing is the text is read.
-use Rattle.std.proofs.Common.{refl, inr, Ok}
-use Rattle.std.specs.Fn.{FnReturnsAt}
-use Rattle.tz_zone.specs.Settings.{Finds, IsNamedOrTextAnswer}
-use Rattle.tz_zone.specs.SettingsParts.{directories_of, reader_of}
-use Rattle.tz_zone.specs.ZoneRef.{own_zone_of}
+use Rattle.tz_zone.proofs.Common.{refl, inr, Ok, FnReturnsAt, own_zone_of, reader_of, directories_of, Finds, IsNamedOrTextAnswer}
 use Rattle.tz_zone.proofs.SettingsAnswers.{opened, opened_bytes}
 use Rattle.tz_zone.proofs.timezone.settings.TimeZoneSettings.parse_name_or_text.Goals as goal
 

@@ -1,11 +1,5 @@
 -- A name is looked for in the directories, and any other text is refused at once.
-use Rattle.std.proofs.Common.{refl, inr, Ok, Err}
-use Rattle.std.specs.Fn.{FnReturnsAt}
-use Rattle.tz_base.specs.declared.error.ReadFault.TheVariants.{Failed}
-use Rattle.tz_zone.specs.Settings.{FindsIn}
-use Rattle.tz_zone.specs.SettingsParts.{directories_of, reader_of}
-use Rattle.tz_zone.specs.ZoneNames.{IsZoneNameAnswer}
-use Rattle.tz_zone.specs.ZoneRef.{own_zone_of}
+use Rattle.tz_zone.proofs.Common.{refl, inr, Err, Ok, FnReturnsAt, own_zone_of, reader_of, FindsIn, directories_of, Failed, IsZoneNameAnswer}
 use Rattle.tz_zone.proofs.Directories.{unseen_fault}
 use Rattle.tz_zone.proofs.SettingsAnswers.{opened, opened_bytes}
 use Rattle.tz_zone.proofs.timezone.settings.TimeZoneSettings.zone_of_name.Goals as goal

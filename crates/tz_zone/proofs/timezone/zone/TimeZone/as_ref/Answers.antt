@@ -1,7 +1,5 @@
 -- The borrowed zone keeps the same offsets.
-use Rattle.std.proofs.Common.{rules}
-use Rattle.std.proofs.lemmas.Int.{to_z-of_z}
-use mir.Syntax.{w32}
+use Rattle.tz_zone.proofs.Common.{to_z-of_z, rules, w32}
 use Rattle.tz_zone.proofs.timezone.zone.TimeZone.as_ref.Goals as goal
 
 pub from_valid_parts-requires-clause-offsets : goal.from_valid_parts-requires-clause-offsets

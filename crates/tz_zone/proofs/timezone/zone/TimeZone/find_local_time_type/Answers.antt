@@ -1,9 +1,5 @@
 -- The answer is that of the borrowed zone.
-use Rattle.std.proofs.Common.{subst}
-use Rattle.std.specs.Prelude.{IfOk}
-use Rattle.std.proofs.lemmas.Int.{to_z-of_z}
-use mir.Syntax.{w64}
-use Rattle.tz_zone.specs.Clock.{IsClock}
+use Rattle.tz_zone.proofs.Common.{to_z-of_z, w64, subst, IsClock, IfOk}
 use Rattle.tz_zone.proofs.timezone.zone.TimeZone.find_local_time_type.Goals as goal
 
 pub returns-clause-ok : goal.returns-clause-ok

@@ -1,11 +1,5 @@
 -- A file denotes one zone, and is refused for memory alone.
-use Rattle.std.proofs.Common.{◌≡◌}
-use Rattle.std.specs.Prelude.{alloc_error}
-use Rattle.std.proofs.lemmas.Result.{MatchResult-from_both, IfOk-weaker, IfErr-weaker}
-use Rattle.tz_base.specs.declared.error.TzError.TheVariants.{Memory}
-use Rattle.tz_zone.specs.TzFile.{IsTzFile}
-use Rattle.tz_zone.specs.TzFileFault.{IsReadFault}
-use Rattle.tz_zone.specs.ZoneRef.{own_zone_of}
+use Rattle.tz_zone.proofs.Common.{◌≡◌, own_zone_of, IfErr-weaker, IsReadFault, alloc_error, IsTzFile, Memory, IfOk-weaker, MatchResult-from_both}
 use Rattle.tz_zone.proofs.TzFileLaws.{denotes_one, refused_for_memory}
 use Rattle.tz_zone.proofs.timezone.zone.TimeZone.from_tz_data.Goals as goal
 

@@ -1,7 +1,5 @@
 -- A zone is made of its parts.
-use Rattle.std.proofs.Common.{rules}
-use Rattle.std.proofs.lemmas.Int.{to_z-of_z}
-use mir.Syntax.{w32}
+use Rattle.tz_zone.proofs.Common.{to_z-of_z, rules, w32}
 use Rattle.tz_zone.proofs.timezone.zone.TimeZone.new.Goals as goal
 
 pub invariant_of-result-clause-sound : goal.invariant_of-result-clause-sound

@@ -1,8 +1,6 @@
 -- Each list's clone is the list.
-use Rattle.std.proofs.Common.{rules}
-use Rattle.std.proofs.lemmas.Int.{to_z-of_z}
+use Rattle.tz_zone.proofs.Common.{to_z-of_z, rules, w32}
 use Rattle.std.proofs.lemmas.List.Elements.{same_from_all_zip}
-use mir.Syntax.{w32}
 use Rattle.tz_zone.proofs.timezone.zone.TimeZone.try_clone.Goals as goal
 
 pub invariant_of-result : goal.invariant_of-result

@@ -1,10 +1,5 @@
 -- A zone of one type alone is valid.
-use Rattle.std.proofs.Common.{rules}
-use Rattle.std.proofs.lemmas.Int.{to_z-of_z}
-use mir.Syntax.{w32}
-use Rattle.tz_rule.specs.LocalTimeType.{LocalTimeType}
-use Rattle.tz_zone.specs.Table.{zone_of_type}
-use Rattle.tz_zone.specs.ValidZone.{IsValidZone}
+use Rattle.tz_zone.proofs.Common.{to_z-of_z, rules, LocalTimeType, w32, IsValidZone, zone_of_type}
 use Rattle.tz_zone.proofs.OffsetBounds.{ends_of_type}
 use Rattle.tz_zone.proofs.timezone.zone.TimeZone.with_type.Goals as goal
 

@@ -1,7 +1,5 @@
 -- A zone keeps the offsets of its own types and rule.
-use Rattle.std.proofs.Common.{rules}
-use Rattle.std.proofs.lemmas.Int.{to_z-of_z}
-use mir.Syntax.{w32}
+use Rattle.tz_zone.proofs.Common.{to_z-of_z, rules, w32}
 use Rattle.tz_zone.proofs.timezone.zone_data.ZoneData.new.Goals as goal
 
 pub invariant_of-result : goal.invariant_of-result

@@ -1,8 +1,5 @@
 -- The offsets that the zone keeps are those that it has.
-use Rattle.std.proofs.Common.{rules}
-use Rattle.std.proofs.lemmas.Int.{to_z-of_z}
-use mir.Syntax.{w32}
-use Rattle.tz_zone.specs.ZoneOfData.{zone_of_data}
+use Rattle.tz_zone.proofs.Common.{to_z-of_z, rules, zone_of_data, w32}
 use Rattle.tz_zone.proofs.OffsetBounds.{found_end_offsets}
 use Rattle.tz_zone.proofs.timezone.zone_data.ZoneData.offsets.Goals as goal
 

@@ -1,7 +1,5 @@
 -- The view is of the zone's own transitions.
-use Rattle.std.proofs.lemmas.Int.{to_z-of_z}
-use mir.Syntax.{w64}
-use Rattle.tz_zone.specs.ZoneOfData.{zone_of_data}
+use Rattle.tz_zone.proofs.Common.{to_z-of_z, w64, zone_of_data}
 use Rattle.tz_zone.proofs.SegmentTypes.{true_segment}
 use Rattle.tz_zone.proofs.timezone.zone_data.ZoneData.segment_at.Goals as goal
 

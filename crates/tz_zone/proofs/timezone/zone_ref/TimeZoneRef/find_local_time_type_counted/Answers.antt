@@ -1,6 +1,5 @@
 -- The view is of the zone's own transitions.
-use Rattle.std.proofs.lemmas.Int.{to_z-of_z}
-use mir.Syntax.{w64}
+use Rattle.tz_zone.proofs.Common.{to_z-of_z, w64}
 use Rattle.tz_zone.proofs.timezone.zone_ref.TimeZoneRef.find_local_time_type_counted.Goals as goal
 
 pub returns-clause-ok : goal.returns-clause-ok

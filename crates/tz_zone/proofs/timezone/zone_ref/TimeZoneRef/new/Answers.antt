@@ -1,6 +1,5 @@
 -- The plain data has the rule that was lent.
-use Rattle.std.proofs.Common.{ap}
-use Rattle.tz_zone.specs.Table.{Zone}
+use Rattle.tz_zone.proofs.Common.{ap, Zone}
 use Rattle.tz_zone.proofs.timezone.zone_ref.TimeZoneRef.new.Goals as goal
 
 pub invariant_of-result : goal.invariant_of-result

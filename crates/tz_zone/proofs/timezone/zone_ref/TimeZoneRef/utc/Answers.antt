@@ -1,6 +1,6 @@
 -- The least and the greatest offset are that of the one type.
+use Rattle.tz_zone.proofs.Common.{plain_type}
 use Rattle.std.specs.Prelude.{pos}
-use Rattle.tz_rule.specs.LocalTimeType.{plain_type}
 use Rattle.tz_zone.proofs.OffsetBounds.{ends_of_type}
 use Rattle.tz_zone.proofs.timezone.zone_ref.TimeZoneRef.utc.Goals as goal
 
