@@ -2,7 +2,7 @@
 //! its ends; and which date time is meant, by a choice for gaps and folds.
 
 ghost use Rattle.std.specs.Prelude.{◌≡◌, ◌∷◌, [], IfOk, IfErr, OnOk};
-ghost use Rattle.tz_base.specs.Fields.{IsValid, reading};
+ghost use Rattle.tz_base.specs.Fields.{IsValid, reading as reading_of};
 ghost use Rattle.tz_zone.specs.Clock.{IsClock};
 ghost use Rattle.tz_zone.specs.WindowTypes.{AreTypesIn, IfMore, IsPositionOf};
 ghost use Rattle.tz_zone.specs.ZoneOfData.{zone_of_data};
@@ -510,7 +510,7 @@ fn lookup_instant(
     after: &LocalTimeType,
 ) -> i64
     requires { IsValid fields.now }
-    ensures { result ≡ instant_between disambiguation (reading fields.now) before.now after.now }
+    ensures { result ≡ instant_between disambiguation (reading_of fields.now) before.now after.now }
 {
     let local_time_type = match disambiguation {
         Disambiguation::Earlier => after,
@@ -530,6 +530,34 @@ fn shown_apart(unix_time: i64, nanoseconds: u32, zone: &ZoneData<'_>) -> Result<
     from_timespec(unix_time, nanoseconds, zone)
 }
 
+/// The one date time that valid fields with this reading mean, as [`DateTime::find_one`] answers.
+#[inline(always)]
+fn find_one_valid(
+    fields: &Fields,
+    reading: i64,
+    disambiguation: Disambiguation,
+    zone: &ZoneData<'_>,
+) -> Result<Option<DateTime>, TzError>
+    requires valid { IsValid fields.now }
+    requires reading { reading ≡ reading_of fields.now }
+    requires small { IsSmall reading }
+    ensures ok { IfOk result (IsMeaning (zone_of_data zone.now) disambiguation fields.now) }
+    ensures made { OnOk result (EachCanBeMade (IsClock (zone_of_data zone.now)) fields.now) }
+    ensures err { IfErr result (IsMeaningFault (zone_of_data zone.now) disambiguation fields.now) }
+{
+    match meant_in(reading, disambiguation, zone)? {
+        None => Ok(None),
+        Some(Entry::Shown(unix_time, local_time_type)) => {
+            let date_time = DateTime::of_fields(fields, *local_time_type, unix_time);
+            Ok(Some(date_time))
+        }
+        Some(Entry::Jump(_, before, after)) => {
+            let unix_time = lookup_instant(fields, disambiguation, before, after);
+            Ok(Some(shown_apart(unix_time, fields.nanoseconds, zone)?))
+        }
+    }
+}
+
 /// The one date time that fields mean, as [`DateTime::find_one`] answers it.
 #[inline(always)]
 pub fn find_one(
@@ -543,17 +571,7 @@ pub fn find_one(
     ensures err { IfErr result (IsMeaningFault (zone_of_data zone.now) disambiguation fields.now) }
 {
     fields.check()?;
-    match meant_in(fields.reading(), disambiguation, zone)? {
-        None => Ok(None),
-        Some(Entry::Shown(unix_time, local_time_type)) => {
-            let date_time = DateTime::of_fields(fields, *local_time_type, unix_time);
-            Ok(Some(date_time))
-        }
-        Some(Entry::Jump(_, before, after)) => {
-            let unix_time = lookup_instant(fields, disambiguation, before, after);
-            Ok(Some(shown_apart(unix_time, fields.nanoseconds, zone)?))
-        }
-    }
+    find_one_valid(fields, fields.reading(), disambiguation, zone)
 }
 
 impl DateTime {
@@ -656,6 +674,7 @@ impl DateTime {
         ensures err { IfErr result
             (IsMeaningFault (zone_of time_zone_ref.entry) disambiguation local) }
     {
-        find_one(local.fields(), disambiguation, &plain(&time_zone_ref))
+        let zone = plain(&time_zone_ref);
+        find_one_valid(local.fields(), local.unix_time(), disambiguation, &zone)
     }
 }

@@ -424,15 +424,15 @@ fn shown_apart(unix_time: i64, nanoseconds: u32, zone: &ZoneData<'_>) -> Result<
     from_timespec(unix_time, nanoseconds, zone)
 }
 
-/// The one date time that fields mean, as [`DateTime::find_one`] answers it.
+/// The one date time that valid fields with this reading mean, as [`DateTime::find_one`] answers.
 #[inline(always)]
-pub fn find_one(
+fn find_one_valid(
     fields: &Fields,
+    reading: i64,
     disambiguation: Disambiguation,
     zone: &ZoneData<'_>,
 ) -> Result<Option<DateTime>, TzError> {
-    fields.check()?;
-    match meant_in(fields.reading(), disambiguation, zone)? {
+    match meant_in(reading, disambiguation, zone)? {
         None => Ok(None),
         Some(Entry::Shown(unix_time, local_time_type)) => {
             let date_time = DateTime::of_fields(fields, *local_time_type, unix_time);
@@ -443,6 +443,17 @@ pub fn find_one(
             Ok(Some(shown_apart(unix_time, fields.nanoseconds, zone)?))
         }
     }
+}
+
+/// The one date time that fields mean, as [`DateTime::find_one`] answers it.
+#[inline(always)]
+pub fn find_one(
+    fields: &Fields,
+    disambiguation: Disambiguation,
+    zone: &ZoneData<'_>,
+) -> Result<Option<DateTime>, TzError> {
+    fields.check()?;
+    find_one_valid(fields, fields.reading(), disambiguation, zone)
 }
 
 impl DateTime {
@@ -528,6 +539,7 @@ impl DateTime {
         disambiguation: Disambiguation,
         time_zone_ref: TimeZoneRef<'_>,
     ) -> Result<Option<Self>, TzError> {
-        find_one(local.fields(), disambiguation, &plain(&time_zone_ref))
+        let zone = plain(&time_zone_ref);
+        find_one_valid(local.fields(), local.unix_time(), disambiguation, &zone)
     }
 }
