@@ -105,7 +105,6 @@ struct Missing<'a> {
 }
 
 /// What is read at the beginning of the bytes, or the part that is missing there.
-#[inline(always)]
 fn expect<'a, T>(part: DateTimePart, text: &'a [u8], read: Option<T>) -> Result<T, Missing<'a>>
     ensures ok { IfOk result (λ value. read ≡ Some value) }
     ensures err { IfErr result (λ e. (read ≡ None) × (e.part ≡ part) × (e.rest.now ≡ text.now)) }
@@ -114,7 +113,6 @@ fn expect<'a, T>(part: DateTimePart, text: &'a [u8], read: Option<T>) -> Result<
 }
 
 /// The value of a digit, which is below 10; for every other byte it is 10 or more.
-#[inline(always)]
 pub fn value_of(byte: u8) -> u8
     ensures digit { result < 10 → (digit_value byte < 10) × (result ≡ digit_value byte) }
     ensures byte { result < 10 → byte ≡ 48 + result }
@@ -126,7 +124,6 @@ pub fn value_of(byte: u8) -> u8
 
 /// The number of the digits at the beginning of the bytes, and how many these are. In the position
 /// of a number of 10^19 or more stands some number that is no less than 10^19.
-#[inline(always)]
 pub fn read_digits(text: &[u8]) -> (u64, usize)
     ensures digits { IsDigits text.now (take result.1 text.now) (drop result.1 text.now) }
     ensures count { result.1 ≤ length text.now }
@@ -146,7 +143,6 @@ pub fn read_digits(text: &[u8]) -> (u64, usize)
 }
 
 /// The number of two digits at the beginning, if it is in a range, and the bytes after it.
-#[inline(always)]
 fn read_pair(text: &[u8], least: u8, greatest: u8) -> Option<(u8, &[u8])>
     ensures { MatchOption result
         ((n : ℕ) (rest : List ℕ) → ¬ IsPair least greatest text.now n rest)
@@ -167,7 +163,6 @@ fn read_pair(text: &[u8], least: u8, greatest: u8) -> Option<(u8, &[u8])>
 }
 
 /// Whether digits can be those of a year: four or more, or those of a number as it is printed.
-#[inline(always)]
 fn are_year_digits(digits: &[u8]) -> bool
     requires { AllDigits 10 digits.now }
     ensures { MatchBool result (AreYearDigits digits.now) (¬ AreYearDigits digits.now) }
@@ -180,7 +175,6 @@ fn are_year_digits(digits: &[u8]) -> bool
 }
 
 /// The number of the digits of a year, if it is one of 63 bits, and the bytes after them.
-#[inline(always)]
 fn read_year_digits(text: &[u8]) -> Option<(i64, &[u8])>
     ensures { MatchOption result
         ((digits rest : List ℕ) → IsDigits text.now digits rest → AreYearDigits digits
@@ -196,7 +190,6 @@ fn read_year_digits(text: &[u8]) -> Option<(i64, &[u8])>
 }
 
 /// The year at the beginning, and the bytes after it.
-#[inline(always)]
 fn read_year(text: &[u8]) -> Option<(i32, &[u8])>
     ensures { MatchOption result
         ((y : ℤ) (rest : List ℕ) → ¬ IsYear text.now y rest)
@@ -215,7 +208,6 @@ fn read_year(text: &[u8]) -> Option<(i32, &[u8])>
 }
 
 /// The date at the beginning, as fields at midnight, and the bytes after it.
-#[inline(always)]
 fn read_date(text: &[u8]) -> Result<(Fields, &[u8]), Missing<'_>>
     ensures { MatchResult result (λ p. date.reads text.now p.0 p.1.now)
         (λ e. date.misses text.now e.part e.rest.now) }
@@ -230,7 +222,6 @@ fn read_date(text: &[u8]) -> Result<(Fields, &[u8]), Missing<'_>>
 }
 
 /// The bytes after the separator of date and time.
-#[inline(always)]
 fn after_separator(text: &[u8]) -> Option<&[u8]>
     ensures { MatchOption result ((rest : List ℕ) → ¬ IsSeparator text.now tt rest)
         (λ rest. IsSeparator text.now tt rest.now) }
@@ -242,7 +233,6 @@ fn after_separator(text: &[u8]) -> Option<&[u8]>
 }
 
 /// The second at the beginning, in a minute of the date, and the bytes after it.
-#[inline(always)]
 fn read_second<'a>(date: &Fields, hour: u8, minute: u8, text: &'a [u8]) -> Option<(u8, &'a [u8])>
     ensures { MatchOption result
         ((n : ℕ) (rest : List ℕ) → ¬ IsSecond date.now hour minute text.now n rest)
@@ -259,7 +249,6 @@ fn read_second<'a>(date: &Fields, hour: u8, minute: u8, text: &'a [u8]) -> Optio
 
 /// The nanoseconds of the fraction at the beginning, or 0 if there is no point, and the bytes after
 /// it.
-#[inline(always)]
 fn read_fraction(text: &[u8]) -> Option<(u32, &[u8])>
     ensures fraction { MatchOption result
         ((n : ℕ) (rest : List ℕ) → ¬ IsFraction text.now n rest)
@@ -278,7 +267,6 @@ fn read_fraction(text: &[u8]) -> Option<(u32, &[u8])>
 }
 
 /// The time at the beginning, with the fields of the date, and the bytes after it.
-#[inline(always)]
 fn read_time<'a>(date: &Fields, text: &'a [u8]) -> Result<(Fields, &'a [u8]), Missing<'a>>
     ensures { MatchResult result (λ p. (time date.now).reads text.now p.0 p.1.now)
         (λ e. (time date.now).misses text.now e.part e.rest.now) }
@@ -309,7 +297,6 @@ enum OffsetMark {
 }
 
 /// The mark at the beginning, and the bytes after it.
-#[inline(always)]
 fn read_mark(text: &[u8]) -> Option<(OffsetMark, &[u8])>
     ensures { MatchOption result
         ((mark : OffsetMark) (rest : List ℕ) → ¬ IsMark text.now mark rest)
@@ -325,7 +312,6 @@ fn read_mark(text: &[u8]) -> Option<(OffsetMark, &[u8])>
 }
 
 /// The hours at the beginning, and the bytes after them.
-#[inline(always)]
 fn read_hours(text: &[u8]) -> Option<(u32, &[u8])>
     ensures { MatchOption result
         ((hours : ℕ) (rest : List ℕ) → ¬ IsHours text.now hours rest)
@@ -339,7 +325,6 @@ fn read_hours(text: &[u8]) -> Option<(u32, &[u8])>
 }
 
 /// The minutes at the beginning, and the bytes after them.
-#[inline(always)]
 fn read_minutes(hours: u32, text: &[u8]) -> Option<(u8, &[u8])>
     requires { 3600 * hours < 2 ^ 31 }
     ensures { MatchOption result
@@ -354,7 +339,6 @@ fn read_minutes(hours: u32, text: &[u8]) -> Option<(u8, &[u8])>
 }
 
 /// The seconds after a colon, or 0 if there is no colon, and the bytes after them.
-#[inline(always)]
 fn read_seconds(hours: u32, minutes: u8, text: &[u8]) -> Option<(u8, &[u8])>
     requires { 3600 * hours + 60 * minutes < 2 ^ 31 }
     ensures { MatchOption result
@@ -372,7 +356,6 @@ fn read_seconds(hours: u32, minutes: u8, text: &[u8]) -> Option<(u8, &[u8])>
 }
 
 /// The seconds of an offset without its sign, and the bytes after it.
-#[inline(always)]
 fn read_duration(text: &[u8]) -> Result<(i32, &[u8]), Missing<'_>>
     ensures { MatchResult result (λ p. (n : ℕ) × (p.0 ≡ pos n) × duration.reads text.now n p.1.now)
         (λ e. duration.misses text.now e.part e.rest.now) }
@@ -388,7 +371,6 @@ fn read_duration(text: &[u8]) -> Result<(i32, &[u8]), Missing<'_>>
 }
 
 /// The offset at the beginning, if there is one, and the bytes after it.
-#[inline(always)]
 fn read_offset(text: &[u8]) -> Result<(Option<i32>, &[u8]), Missing<'_>>
     ensures { MatchResult result (λ p. offset.reads text.now p.0 p.1.now)
         (λ e. offset.misses text.now e.part e.rest.now) }
@@ -416,7 +398,6 @@ pub struct ParsedDateTime {
 }
 
 /// The date time that the whole text is.
-#[inline(always)]
 fn read_date_time(text: &[u8]) -> Result<ParsedDateTime, Missing<'_>>
     ensures { MatchResult result (λ p. IsDateTimeText text.now p)
         (λ e. date_time.misses text.now e.part e.rest.now) }
@@ -500,7 +481,6 @@ static LEAST_OF_TIME: [u8; 16] = *b":00:00.000000000";
 static GREATEST_OF_TIME: [u8; 16] = *b":99:99.999999999";
 
 /// Whether each of 16 bytes from a position on is in a range.
-#[inline(always)]
 fn are_between(text: &[u8], position: usize, least: &[u8; 16], greatest: &[u8; 16]) -> bool
     requires { position + 16 ≤ length text.now }
     ensures { result ≡ true → AreBetween text.now position 16 least.now greatest.now }
@@ -514,7 +494,6 @@ fn are_between(text: &[u8], position: usize, least: &[u8; 16], greatest: &[u8; 1
 }
 
 /// The number of two digits at a position.
-#[inline(always)]
 fn pair_at(text: &[u8], position: usize) -> u8
     requires { position + 2 ≤ length text.now }
     ensures { IsDigitByte (get_or text.now position 0)
@@ -530,7 +509,6 @@ fn pair_at(text: &[u8], position: usize) -> u8
 }
 
 /// The number of two digits at a position, if there are two.
-#[inline(always)]
 fn digits_at(text: &[u8], position: usize) -> Option<u8>
     requires { position + 2 ≤ length text.now }
     ensures { IfSome result (λ n. (n < 100) × (drop position text.now ≡ two_digits n
@@ -543,7 +521,6 @@ fn digits_at(text: &[u8], position: usize) -> Option<u8>
 }
 
 /// The offset of hours and minutes, or of `Z`, with which the text ends.
-#[inline(always)]
 fn offset_at_end(text: &[u8]) -> Option<i32>
     requires { 30 ≤ length text.now }
     ensures text { IfSome result (λ z. drop 29 text.now ≡ offset_text z) }
@@ -572,7 +549,6 @@ fn offset_at_end(text: &[u8]) -> Option<i32>
 }
 
 /// The nanoseconds of nine digits.
-#[inline(always)]
 fn nanoseconds_at(text: &[u8]) -> u32
     requires within { 29 ≤ length text.now }
     requires digits { AreDigitsFrom20 text.now }
@@ -589,7 +565,6 @@ fn nanoseconds_at(text: &[u8]) -> u32
 }
 
 /// The date time of a printed text with a year of four digits and an offset of hours and minutes.
-#[inline(always)]
 fn read_printed(text: &[u8]) -> Option<(Fields, i32)>
     ensures text { IfSome result (λ p. text.now ≡ printed_text p.0 p.1) }
     ensures valid { IfSome result (λ p. IsValid p.0 × (p.0.second < 60)

@@ -10,7 +10,6 @@ use tz_base::fields::Fields;
 
 /// What stands between the year and the nanoseconds: month and day, and the time of day up to the
 /// point.
-#[inline(always)]
 pub fn middle_of(fields: &Fields) -> [u8; 16]
     requires { IsValid fields.now }
     ensures text { result ≡ middle_text fields.now }
@@ -27,7 +26,6 @@ pub fn middle_of(fields: &Fields) -> [u8; 16]
 
 impl TextBuffer {
     /// Appends a year.
-    #[inline(always)]
     pub fn push_year(&mut self, year: i32)
         requires { length self.old + 11 ≤ 128 }
         ensures text { self.new ≡ self.old ++ signed_decimal year }
@@ -104,7 +102,6 @@ impl TextBuffer {
     }
 
     /// Appends the printed date time of the fields and an offset in seconds.
-    #[inline(always)]
     pub fn push_date_time(&mut self, fields: &Fields, ut_offset: i32)
         requires valid { IsValid fields.now }
         requires room { length self.old + 53 ≤ 128 }

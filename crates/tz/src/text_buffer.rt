@@ -31,7 +31,6 @@ static PAIRS: [u8; 200] =
     *b"00010203040506070809101112131415161718192021222324252627282930313233343536373839404142434445464748495051525354555657585960616263646566676869707172737475767778798081828384858687888990919293949596979899";
 
 /// The two digits of a number below 100.
-#[inline(always)]
 pub fn pair_of(number: u8) -> [u8; 2]
     requires { number < 100 }
     ensures { result ≡ two_digits number }
@@ -43,7 +42,6 @@ pub fn pair_of(number: u8) -> [u8; 2]
 }
 
 /// The digits of a number that has four: the first two, and the last two.
-#[inline(always)]
 pub fn two_pairs(number: u32) -> ([u8; 2], [u8; 2])
     requires { (1000 ≤ number) × (number < 10000) }
     ensures text { result.0 ++ result.1 ≡ decimal number }
@@ -64,7 +62,6 @@ impl TextBuffer {
     }
 
     /// Clears the text.
-    #[inline]
     pub fn clear(&mut self)
         ensures { self.new ≡ [] }
     {
@@ -72,7 +69,6 @@ impl TextBuffer {
     }
 
     /// The text's bytes.
-    #[inline]
     pub fn as_bytes(&self) -> &[u8]
         ensures text { result.now ≡ self.now }
         ensures utf8 { IsUtf8 result.now }
@@ -82,7 +78,6 @@ impl TextBuffer {
     }
 
     /// The text.
-    #[inline]
     pub fn as_str(&self) -> &str
         ensures { result.now ≡ self.now }
     {
@@ -90,7 +85,6 @@ impl TextBuffer {
     }
 
     /// Appends an ASCII byte.
-    #[inline(always)]
     pub fn push(&mut self, byte: u8)
         requires ascii { byte < 128 }
         requires room { length self.old + 1 ≤ 128 }
@@ -102,7 +96,6 @@ impl TextBuffer {
     }
 
     /// Appends a text.
-    #[inline]
     pub fn push_str(&mut self, text: &str)
         requires { length self.old + length text.now ≤ 128 }
         ensures text { self.new ≡ self.old ++ text.now }
@@ -114,7 +107,6 @@ impl TextBuffer {
     }
 
     /// Appends ASCII bytes.
-    #[inline(always)]
     pub(crate) fn push_ascii(&mut self, bytes: &[u8])
         requires ascii { IsAscii bytes.now }
         requires room { length self.old + length bytes.now ≤ 128 }
@@ -127,7 +119,6 @@ impl TextBuffer {
     }
 
     /// Appends a number below 100 as two digits.
-    #[inline(always)]
     pub(crate) fn push_two_digits(&mut self, number: u8)
         requires below { number < 100 }
         requires room { length self.old + 2 ≤ 128 }
@@ -138,7 +129,6 @@ impl TextBuffer {
     }
 
     /// Appends nanoseconds as nine digits.
-    #[inline(always)]
     pub fn push_nine_digits(&mut self, number: u32)
         requires below { number < 1000000000 }
         requires room { length self.old + 9 ≤ 128 }

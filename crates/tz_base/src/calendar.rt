@@ -34,7 +34,6 @@ const ADDED_MARCH_DAYS: i64 = 784_353_144_339;
 const DAYS_FROM_MARCH: [u16; 12] = [306, 337, 0, 31, 61, 92, 122, 153, 184, 214, 245, 275];
 
 /// The year, moved.
-#[inline(always)]
 pub const fn moved_year(year: i32) -> u64
     ensures value { pos result ≡ year +ℤ pos 2147484000 }
     ensures bound { (352 ≤ result) × (result ≤ 4294967647) }
@@ -43,7 +42,6 @@ pub const fn moved_year(year: i32) -> u64
 }
 
 /// The year that a moved year stands for.
-#[inline(always)]
 pub const fn year_of_moved(years: u64) -> i32
     requires { (352 ≤ years) × (years ≤ 4294967647) }
     ensures { result +ℤ pos 2147484000 ≡ pos years }
@@ -52,7 +50,6 @@ pub const fn year_of_moved(years: u64) -> i32
 }
 
 /// Seconds from 1970-01-01 00:00:00 on, counted from January 1st of the year -2147484000 instead.
-#[inline(always)]
 pub const fn moved_seconds(seconds: i64) -> u64
     requires { IsReading seconds }
     ensures { pos result ≡ seconds +ℤ pos 67768111675987200 }
@@ -69,7 +66,6 @@ pub const fn is_leap_year(year: i32) -> bool
 
 /// Whether a moved year is leap. One that is divisible by 100 is divisible by 400 exactly if it is
 /// by 16.
-#[inline(always)]
 pub const fn is_moved_year_leap(years: u64) -> bool
     requires { years ≤ 4294967647 }
     ensures { result ≡ is_leap (pos years) }
@@ -83,7 +79,6 @@ pub const fn is_moved_year_leap(years: u64) -> bool
 
 /// How many years before a moved year are divisible by 100. A multiplication and a shift stand for
 /// the division.
-#[inline(always)]
 const fn centuries_before(years: u64) -> u64
     requires { years ≤ 4294967647 }
     ensures { result ≡ (years + 99) / 100 }
@@ -133,7 +128,6 @@ pub const fn first_day_of_year(year: i32) -> i64
 }
 
 /// The days before a moved year, from January 1st of the year -2147484000 on.
-#[inline(always)]
 pub const fn days_before_moved_year(years: u64) -> u64
     requires { years ≤ 4294967647 }
     ensures value { result ≡ days_of_years years }

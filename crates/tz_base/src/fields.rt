@@ -53,7 +53,6 @@ pub const fn is_reading(reading: i64) -> bool
 }
 
 /// The reading of a clock with this offset from UTC at a Unix time, if it is in a year of 32 bits.
-#[inline(always)]
 pub const fn local_reading(unix_time: i64, ut_offset: i32) -> Option<i64>
     ensures some { IfSome result (λ x. (x ≡ unix_time +ℤ ut_offset) × IsReading x) }
     ensures none { IfNone result (¬ IsReading (unix_time +ℤ ut_offset)) }
@@ -69,7 +68,6 @@ pub const fn local_reading(unix_time: i64, ut_offset: i32) -> Option<i64>
 
 impl Fields {
     /// The fields with these values.
-    #[inline(always)]
     pub const fn new(
         year: i32,
         month: u8,

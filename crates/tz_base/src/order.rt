@@ -5,7 +5,6 @@ ghost use Rattle.std.specs.Prelude.{◌≡◌};
 ghost use Rattle.std.specs.Int.{int_min, int_max};
 
 /// The lesser of two numbers of 32 bits.
-#[inline(always)]
 pub const fn lesser_i32(a: i32, b: i32) -> i32
     ensures { result ≡ int_min a b }
 {
@@ -13,7 +12,6 @@ pub const fn lesser_i32(a: i32, b: i32) -> i32
 }
 
 /// The greater of two numbers of 32 bits.
-#[inline(always)]
 pub const fn greater_i32(a: i32, b: i32) -> i32
     ensures { result ≡ int_max a b }
 {
@@ -21,7 +19,6 @@ pub const fn greater_i32(a: i32, b: i32) -> i32
 }
 
 /// The lesser of two numbers of 64 bits.
-#[inline(always)]
 pub const fn lesser_i64(a: i64, b: i64) -> i64
     ensures { result ≡ int_min a b }
 {
@@ -29,7 +26,6 @@ pub const fn lesser_i64(a: i64, b: i64) -> i64
 }
 
 /// The greater of two numbers of 64 bits.
-#[inline(always)]
 pub const fn greater_i64(a: i64, b: i64) -> i64
     ensures { result ≡ int_max a b }
 {

@@ -554,7 +554,6 @@ pub struct FoundData {
 
 impl UtcData {
     /// The data of a date time.
-    #[inline(always)]
     pub const fn of(date_time: &UtcDateTime) -> Self
         ensures fields { result.fields ≡ date_time.now }
         ensures value { IsUtcData result }
@@ -568,7 +567,6 @@ impl UtcData {
 
 impl DateTimeData {
     /// The data of a date time.
-    #[inline(always)]
     pub const fn of(date_time: &DateTime) -> Self
         ensures value { result ≡ date_time_data date_time.now }
         ensures sound { IsDateTime date_time.now }
@@ -586,7 +584,6 @@ impl Slot for FoundData {
 
     ghost holding = { found_data };
 
-    #[inline(always)]
     fn set(&mut self, found: &FoundDateTimeKind) {
         let (before, after) = found.sides();
         self.is_skipped = matches!(found, FoundDateTimeKind::Skipped { .. });

@@ -66,7 +66,6 @@ impl Parts {
 
     /// How many seconds after 00:00 UTC of January 1st daylight saving time starts, by the kind of
     /// the year. `day` is the part `dst_start` as a `RuleDay`, which saves its conversion.
-    #[inline(always)]
     pub(super) const fn starts(&self, day: &RuleDay) -> YearTable
         requires range { IsInRuleRange (rule_of self.now) }
         requires day { day.now ≡ (rule_of self.now).dst_start }
@@ -78,7 +77,6 @@ impl Parts {
 
     /// How many seconds after 00:00 UTC of January 1st it ends, by the kind of the year. `day` is
     /// the part `dst_end`.
-    #[inline(always)]
     pub(super) const fn ends(&self, day: &RuleDay) -> YearTable
         requires range { IsInRuleRange (rule_of self.now) }
         requires day { day.now ≡ (rule_of self.now).dst_end }
@@ -352,7 +350,6 @@ impl AlternateData {
     ghost use Rattle.tz_rule.specs.YearTables.{start_table, end_table, ComesFirst, ChangesOrder};
 
     /// The rule with these parts, as `AlternateTime::new` makes it.
-    #[inline(always)]
     pub const fn new(
         std: LocalTimeType,
         dst: LocalTimeType,
@@ -382,7 +379,6 @@ impl AlternateData {
     }
 
     /// The rule of parts in range with their tables, whose starts and ends keep their order.
-    #[inline(always)]
     pub(super) const fn of_tables(
         parts: Parts,
         starts: YearTable,
@@ -510,7 +506,6 @@ impl AlternateData {
     }
 
     /// The table of the starts of daylight saving time, or of its ends.
-    #[inline(always)]
     pub(super) const fn table(&self, is_end: bool) -> &YearTable
         ensures { IsTableOf (switch_of self.now is_end) result.now.0 }
     {
@@ -528,7 +523,6 @@ impl AlternateData {
 
     /// Whether the end comes before the start in some year, so that daylight saving time lasts from
     /// each start to its end in the next year.
-    #[inline(always)]
     pub(crate) const fn ends_next_year(&self) -> bool
         ensures { MatchBool result (EndsNextYear (start_of self.now) (end_of self.now))
             (¬ EndsNextYear (start_of self.now) (end_of self.now)) }
@@ -537,7 +531,6 @@ impl AlternateData {
     }
 
     /// Whether each start and each end is ten days or more from the ends of its year.
-    #[inline(always)]
     pub(super) const fn has_inner_switches(&self) -> bool
         ensures { OnTrue result (HasInnerSwitches self.now) }
     {

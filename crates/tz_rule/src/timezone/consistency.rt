@@ -34,7 +34,6 @@ const FIRST_MODEL_YEAR: i32 = 1972;
 const MODEL_YEARS: u8 = 29;
 
 /// The kind of the first year of a pair kind.
-#[inline(always)]
 const fn first_kind(pair: usize) -> usize
     requires { pair < 21 }
     ensures value { result ≡ first_kind_of pair }
@@ -44,7 +43,6 @@ const fn first_kind(pair: usize) -> usize
 }
 
 /// The kind of the second year of a pair kind.
-#[inline(always)]
 const fn second_kind(pair: usize) -> usize
     requires { pair < 21 }
     ensures value { result ≡ second_kind_of pair }
@@ -54,7 +52,6 @@ const fn second_kind(pair: usize) -> usize
 }
 
 /// The days of the first year of a pair kind.
-#[inline(always)]
 #[tactic(auto, unfolding(crate::specs::Kinds::first_days))]
 const fn first_days(pair: usize) -> u16
     ensures value { result ≡ first_days_of pair }

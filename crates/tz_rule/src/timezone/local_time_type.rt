@@ -54,7 +54,6 @@ impl PartialEq for LocalTimeType {
     ghost laws = { partial_equiv_from_equiv
         (IsEquivalence-from_equality same_type Decides-same_type) };
 
-    #[inline(always)]
     fn eq(&self, other: &LocalTimeType) -> bool {
         self.is_same(other)
     }
@@ -80,7 +79,6 @@ impl fmt::Debug for LocalTimeType {
 static NAME_BITS: [u32; 8] = [0, 0x03ff_2800, 0x07ff_fffe, 0x07ff_fffe, 0, 0, 0, 0];
 
 /// Whether a name may have the byte.
-#[inline(always)]
 const fn is_designation_byte(byte: u8) -> bool
     ensures { IsTrue result ↔ IsDesignationByte byte }
 {
@@ -94,7 +92,6 @@ impl Designation {
     ghost use Rattle.std.specs.Prelude.{All, IfOk, IfErr, OnOk, ◌⊎◌, ◌≡◌};
 
     /// No name.
-    #[inline(always)]
     const fn none() -> Designation
         ensures { result ≡ kept None }
     {
@@ -105,7 +102,6 @@ impl Designation {
     }
 
     /// Checks and stores a name.
-    #[inline(always)]
     const fn new(name: &[u8]) -> Result<Designation, LocalTimeTypeError>
         ensures kept { IfOk result (λ d. IsKept d × (name_of d ≡ name.now) × (1 ≤ d.len)) }
         ensures err { IfErr result (λ e. ((e ≡ faults.InvalidTimeZoneDesignationLength)
@@ -133,7 +129,6 @@ impl Designation {
     }
 
     /// The bytes and the length, as one number.
-    #[inline(always)]
     const fn word(&self) -> u64
         ensures { result ≡ word_of self.now }
     {
@@ -254,7 +249,6 @@ impl LocalTimeType {
 
     /// Whether the other type has the same offset, daylight flag and name. This is what `==`
     /// returns, in a form that Rust can compute in a constant.
-    #[inline(always)]
     pub const fn is_same(&self, other: &LocalTimeType) -> bool
         ensures { result ≡ same_type self.now other.now }
     {

@@ -13,7 +13,6 @@ use tz_base::error::TransitionRuleError;
 
 /// The day of a month of this length, counted from 0, on which a week day falls for the w-th time,
 /// or for week 5 for the last time, if it first falls on day `first`.
-#[inline(always)]
 const fn nth_week_day(first: u8, days: u8, week: u8) -> u8
     requires first { first < 7 }
     requires days { (28 ≤ days) × (days ≤ 31) }
@@ -38,7 +37,6 @@ const fn least_day(days: u8, week: u8) -> u8
 
 /// The day of a year that begins one week day later: a day earlier, or the last of the seven days
 /// that it may be if it was the first.
-#[inline(always)]
 const fn year_day_before(year_day: u16, least: u16) -> u16
     requires year_day { (least ≤ year_day) × (year_day ≤ least + 6) }
     requires bound { least ≤ 366 }
@@ -351,7 +349,6 @@ impl DayData {
     ghost use Rattle.tz_rule.specs.RuleDays.{IsRuleDay};
 
     /// The numbers of a rule day.
-    #[inline(always)]
     pub const fn of(day: &RuleDay) -> Self
         ensures { result ≡ day.now }
     {
@@ -394,7 +391,6 @@ impl DayData {
     }
 
     /// The rule day with these numbers.
-    #[inline(always)]
     pub const fn day(&self) -> RuleDay
         ensures { result ≡ self.now }
     {

@@ -233,7 +233,6 @@ impl AlternateData {
     }
 
     /// The segment around an instant that the likely year does not always determine.
-    #[inline(never)]
     const fn outer_segment(&self, unix_time: i64) -> RuleSegment<'_>
         ensures { IsRuleSegment (Alternate self.now) unix_time result }
     {

@@ -89,20 +89,17 @@ struct Missing<'a> {
 }
 
 /// What is read at the beginning of the bytes, or the part that is missing there.
-#[inline(always)]
 fn expect<'a, T>(part: DateTimePart, text: &'a [u8], read: Option<T>) -> Result<T, Missing<'a>> {
     read.ok_or(Missing { part, rest: text })
 }
 
 /// The value of a digit, which is below 10; for every other byte it is 10 or more.
-#[inline(always)]
 pub fn value_of(byte: u8) -> u8 {
     byte.wrapping_sub(b'0')
 }
 
 /// The number of the digits at the beginning of the bytes, and how many these are. In the position
 /// of a number of 10^19 or more stands some number that is no less than 10^19.
-#[inline(always)]
 pub fn read_digits(text: &[u8]) -> (u64, usize) {
     let mut size = 0u64;
     for (position, byte) in text.iter().enumerate() {
@@ -116,7 +113,6 @@ pub fn read_digits(text: &[u8]) -> (u64, usize) {
 }
 
 /// The number of two digits at the beginning, if it is in a range, and the bytes after it.
-#[inline(always)]
 fn read_pair(text: &[u8], least: u8, greatest: u8) -> Option<(u8, &[u8])> {
     let [tens, ones, rest @ ..] = text else {
         return None;
@@ -133,7 +129,6 @@ fn read_pair(text: &[u8], least: u8, greatest: u8) -> Option<(u8, &[u8])> {
 }
 
 /// Whether digits can be those of a year: four or more, or those of a number as it is printed.
-#[inline(always)]
 fn are_year_digits(digits: &[u8]) -> bool {
     match digits {
         [] => false,
@@ -143,7 +138,6 @@ fn are_year_digits(digits: &[u8]) -> bool {
 }
 
 /// The number of the digits of a year, if it is one of 63 bits, and the bytes after them.
-#[inline(always)]
 fn read_year_digits(text: &[u8]) -> Option<(i64, &[u8])> {
     let (size, count) = read_digits(text);
     if !are_year_digits(&text[..count]) {
@@ -153,7 +147,6 @@ fn read_year_digits(text: &[u8]) -> Option<(i64, &[u8])> {
 }
 
 /// The year at the beginning, and the bytes after it.
-#[inline(always)]
 fn read_year(text: &[u8]) -> Option<(i32, &[u8])> {
     match after_byte(text, b'-') {
         Some(unsigned) => {
@@ -168,7 +161,6 @@ fn read_year(text: &[u8]) -> Option<(i32, &[u8])> {
 }
 
 /// The date at the beginning, as fields at midnight, and the bytes after it.
-#[inline(always)]
 fn read_date(text: &[u8]) -> Result<(Fields, &[u8]), Missing<'_>> {
     let (year, text) = expect(DateTimePart::Year, text, read_year(text))?;
     let text = expect(DateTimePart::Hyphen, text, after_byte(text, b'-'))?;
@@ -180,7 +172,6 @@ fn read_date(text: &[u8]) -> Result<(Fields, &[u8]), Missing<'_>> {
 }
 
 /// The bytes after the separator of date and time.
-#[inline(always)]
 fn after_separator(text: &[u8]) -> Option<&[u8]> {
     match text {
         [b'T' | b't' | b' ', rest @ ..] => Some(rest),
@@ -189,7 +180,6 @@ fn after_separator(text: &[u8]) -> Option<&[u8]> {
 }
 
 /// The second at the beginning, in a minute of the date, and the bytes after it.
-#[inline(always)]
 fn read_second<'a>(date: &Fields, hour: u8, minute: u8, text: &'a [u8]) -> Option<(u8, &'a [u8])> {
     let (second, rest) = read_pair(text, 0, 60)?;
     let (year, month, month_day) = (date.year, date.month, date.month_day);
@@ -202,7 +192,6 @@ fn read_second<'a>(date: &Fields, hour: u8, minute: u8, text: &'a [u8]) -> Optio
 
 /// The nanoseconds of the fraction at the beginning, or 0 if there is no point, and the bytes after
 /// it.
-#[inline(always)]
 fn read_fraction(text: &[u8]) -> Option<(u32, &[u8])> {
     let Some(digits) = after_byte(text, b'.') else {
         return Some((0, text));
@@ -216,7 +205,6 @@ fn read_fraction(text: &[u8]) -> Option<(u32, &[u8])> {
 }
 
 /// The time at the beginning, with the fields of the date, and the bytes after it.
-#[inline(always)]
 fn read_time<'a>(date: &Fields, text: &'a [u8]) -> Result<(Fields, &'a [u8]), Missing<'a>> {
     let (hour, text) = expect(DateTimePart::Hour, text, read_pair(text, 0, 23))?;
     let text = expect(DateTimePart::Colon, text, after_byte(text, b':'))?;
@@ -244,7 +232,6 @@ enum OffsetMark {
 }
 
 /// The mark at the beginning, and the bytes after it.
-#[inline(always)]
 fn read_mark(text: &[u8]) -> Option<(OffsetMark, &[u8])> {
     match text {
         [] => Some((OffsetMark::Absent, text)),
@@ -256,7 +243,6 @@ fn read_mark(text: &[u8]) -> Option<(OffsetMark, &[u8])> {
 }
 
 /// The hours at the beginning, and the bytes after them.
-#[inline(always)]
 fn read_hours(text: &[u8]) -> Option<(u32, &[u8])> {
     let (size, count) = read_digits(text);
     if count < 2 || size > 596_523 {
@@ -266,7 +252,6 @@ fn read_hours(text: &[u8]) -> Option<(u32, &[u8])> {
 }
 
 /// The minutes at the beginning, and the bytes after them.
-#[inline(always)]
 fn read_minutes(hours: u32, text: &[u8]) -> Option<(u8, &[u8])> {
     let (minutes, rest) = read_pair(text, 0, 59)?;
     if 3600 * hours + 60 * u32::from(minutes) > 2_147_483_647 {
@@ -276,7 +261,6 @@ fn read_minutes(hours: u32, text: &[u8]) -> Option<(u8, &[u8])> {
 }
 
 /// The seconds after a colon, or 0 if there is no colon, and the bytes after them.
-#[inline(always)]
 fn read_seconds(hours: u32, minutes: u8, text: &[u8]) -> Option<(u8, &[u8])> {
     let Some(after) = after_byte(text, b':') else {
         return Some((0, text));
@@ -289,7 +273,6 @@ fn read_seconds(hours: u32, minutes: u8, text: &[u8]) -> Option<(u8, &[u8])> {
 }
 
 /// The seconds of an offset without its sign, and the bytes after it.
-#[inline(always)]
 fn read_duration(text: &[u8]) -> Result<(i32, &[u8]), Missing<'_>> {
     let (hours, text) = expect(DateTimePart::OffsetHour, text, read_hours(text))?;
     let text = expect(DateTimePart::Colon, text, after_byte(text, b':'))?;
@@ -302,7 +285,6 @@ fn read_duration(text: &[u8]) -> Result<(i32, &[u8]), Missing<'_>> {
 }
 
 /// The offset at the beginning, if there is one, and the bytes after it.
-#[inline(always)]
 fn read_offset(text: &[u8]) -> Result<(Option<i32>, &[u8]), Missing<'_>> {
     let (mark, text) = expect(DateTimePart::Offset, text, read_mark(text))?;
     match mark {
@@ -327,7 +309,6 @@ pub struct ParsedDateTime {
 }
 
 /// The date time that the whole text is.
-#[inline(always)]
 fn read_date_time(text: &[u8]) -> Result<ParsedDateTime, Missing<'_>> {
     let (date, text) = read_date(text)?;
     let text = expect(DateTimePart::Separator, text, after_separator(text))?;
@@ -400,7 +381,6 @@ static LEAST_OF_TIME: [u8; 16] = *b":00:00.000000000";
 static GREATEST_OF_TIME: [u8; 16] = *b":99:99.999999999";
 
 /// Whether each of 16 bytes from a position on is in a range.
-#[inline(always)]
 fn are_between(text: &[u8], position: usize, least: &[u8; 16], greatest: &[u8; 16]) -> bool {
     let mut between = true;
     for index in 0..16 {
@@ -411,7 +391,6 @@ fn are_between(text: &[u8], position: usize, least: &[u8; 16], greatest: &[u8; 1
 }
 
 /// The number of two digits at a position.
-#[inline(always)]
 fn pair_at(text: &[u8], position: usize) -> u8 {
     let tens = text[position].wrapping_sub(b'0');
     let ones = text[position + 1].wrapping_sub(b'0');
@@ -419,7 +398,6 @@ fn pair_at(text: &[u8], position: usize) -> u8 {
 }
 
 /// The number of two digits at a position, if there are two.
-#[inline(always)]
 fn digits_at(text: &[u8], position: usize) -> Option<u8> {
     if text[position].is_ascii_digit() && text[position + 1].is_ascii_digit() {
         return Some(pair_at(text, position));
@@ -428,7 +406,6 @@ fn digits_at(text: &[u8], position: usize) -> Option<u8> {
 }
 
 /// The offset of hours and minutes, or of `Z`, with which the text ends.
-#[inline(always)]
 fn offset_at_end(text: &[u8]) -> Option<i32> {
     if text.len() == 30 && text[29] == b'Z' {
         return Some(0);
@@ -453,7 +430,6 @@ fn offset_at_end(text: &[u8]) -> Option<i32> {
 }
 
 /// The nanoseconds of nine digits.
-#[inline(always)]
 fn nanoseconds_at(text: &[u8]) -> u32 {
     let first = u32::from(text[20].wrapping_sub(b'0'));
     let millions = u32::from(pair_at(text, 21));
@@ -466,7 +442,6 @@ fn nanoseconds_at(text: &[u8]) -> u32 {
 }
 
 /// The date time of a printed text with a year of four digits and an offset of hours and minutes.
-#[inline(always)]
 fn read_printed(text: &[u8]) -> Option<(Fields, i32)> {
     if text.len() < 30
         || !are_between(text, 0, &LEAST, &GREATEST)

@@ -6,7 +6,6 @@ use crate::proved::tz_base::fields::Fields;
 
 /// What stands between the year and the nanoseconds: month and day, and the time of day up to the
 /// point.
-#[inline(always)]
 pub fn middle_of(fields: &Fields) -> [u8; 16] {
     let (month, day) = (pair_of(fields.month), pair_of(fields.month_day));
     let hour = pair_of(fields.hour);
@@ -19,7 +18,6 @@ pub fn middle_of(fields: &Fields) -> [u8; 16] {
 
 impl TextBuffer {
     /// Appends a year.
-    #[inline(always)]
     pub fn push_year(&mut self, year: i32) {
         if year < 0 {
             self.push(b'-');
@@ -74,7 +72,6 @@ impl TextBuffer {
     }
 
     /// Appends the printed date time of the fields and an offset in seconds.
-    #[inline(always)]
     pub fn push_date_time(&mut self, fields: &Fields, ut_offset: i32) {
         self.push_year(fields.year);
         self.push_ascii(&middle_of(fields));

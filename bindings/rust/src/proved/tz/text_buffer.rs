@@ -14,7 +14,6 @@ static PAIRS: [u8; 200] =
     *b"00010203040506070809101112131415161718192021222324252627282930313233343536373839404142434445464748495051525354555657585960616263646566676869707172737475767778798081828384858687888990919293949596979899";
 
 /// The two digits of a number below 100.
-#[inline(always)]
 pub fn pair_of(number: u8) -> [u8; 2] {
     let position = usize::from(number) * 2;
     let mut pair = [0; 2];
@@ -23,7 +22,6 @@ pub fn pair_of(number: u8) -> [u8; 2] {
 }
 
 /// The digits of a number that has four: the first two, and the last two.
-#[inline(always)]
 pub fn two_pairs(number: u32) -> ([u8; 2], [u8; 2]) {
     (pair_of((number / 100) as u8), pair_of((number % 100) as u8))
 }
@@ -38,32 +36,27 @@ impl TextBuffer {
     }
 
     /// Clears the text.
-    #[inline]
     pub fn clear(&mut self) {
         self.len = 0;
     }
 
     /// The text's bytes.
-    #[inline]
     pub const fn as_bytes(&self) -> &[u8] {
         self.bytes.split_at(self.len).0
     }
 
     /// The text.
-    #[inline]
     pub const fn as_str(&self) -> &str {
         crate::shim::text(self.as_bytes())
     }
 
     /// Appends an ASCII byte.
-    #[inline(always)]
     pub fn push(&mut self, byte: u8) {
         self.bytes[self.len] = byte;
         self.len += 1;
     }
 
     /// Appends a text.
-    #[inline]
     pub fn push_str(&mut self, text: &str) {
         let end = self.len + text.len();
         self.bytes[self.len..end].copy_from_slice(text.as_bytes());
@@ -71,7 +64,6 @@ impl TextBuffer {
     }
 
     /// Appends ASCII bytes.
-    #[inline(always)]
     pub(crate) fn push_ascii(&mut self, bytes: &[u8]) {
         let end = self.len + bytes.len();
         self.bytes[self.len..end].copy_from_slice(bytes);
@@ -79,13 +71,11 @@ impl TextBuffer {
     }
 
     /// Appends a number below 100 as two digits.
-    #[inline(always)]
     pub(crate) fn push_two_digits(&mut self, number: u8) {
         self.push_ascii(&pair_of(number));
     }
 
     /// Appends nanoseconds as nine digits.
-    #[inline(always)]
     pub fn push_nine_digits(&mut self, number: u32) {
         let high = number / 10_000;
         let low = number % 10_000;

@@ -30,19 +30,16 @@ const ADDED_MARCH_DAYS: i64 = 784_353_144_339;
 const DAYS_FROM_MARCH: [u16; 12] = [306, 337, 0, 31, 61, 92, 122, 153, 184, 214, 245, 275];
 
 /// The year, moved.
-#[inline(always)]
 pub const fn moved_year(year: i32) -> u64 {
     (year as i64 + ADDED_YEARS) as u64
 }
 
 /// The year that a moved year stands for.
-#[inline(always)]
 pub const fn year_of_moved(years: u64) -> i32 {
     (years as i64 - ADDED_YEARS) as i32
 }
 
 /// Seconds from 1970-01-01 00:00:00 on, counted from January 1st of the year -2147484000 instead.
-#[inline(always)]
 pub const fn moved_seconds(seconds: i64) -> u64 {
     (seconds + ADDED_SECONDS) as u64
 }
@@ -54,7 +51,6 @@ pub const fn is_leap_year(year: i32) -> bool {
 
 /// Whether a moved year is leap. One that is divisible by 100 is divisible by 400 exactly if it is
 /// by 16.
-#[inline(always)]
 pub const fn is_moved_year_leap(years: u64) -> bool {
     if 100 * centuries_before(years) == years {
         years % 16 == 0
@@ -65,7 +61,6 @@ pub const fn is_moved_year_leap(years: u64) -> bool {
 
 /// How many years before a moved year are divisible by 100. A multiplication and a shift stand for
 /// the division.
-#[inline(always)]
 const fn centuries_before(years: u64) -> u64 {
     1_374_389_535 * (years + 99) / 137_438_953_472
 }
@@ -104,7 +99,6 @@ pub const fn first_day_of_year(year: i32) -> i64 {
 }
 
 /// The days before a moved year, from January 1st of the year -2147484000 on.
-#[inline(always)]
 pub const fn days_before_moved_year(years: u64) -> u64 {
     (1461 * years + 3) / 4 - 3 * centuries_before(years) / 4
 }

@@ -44,7 +44,6 @@ pub const fn is_reading(reading: i64) -> bool {
 }
 
 /// The reading of a clock with this offset from UTC at a Unix time, if it is in a year of 32 bits.
-#[inline(always)]
 pub const fn local_reading(unix_time: i64, ut_offset: i32) -> Option<i64> {
     // A sum that wraps is in no year of 32 bits, and nor is the true one.
     let reading = unix_time.wrapping_add(ut_offset as i64);
@@ -57,7 +56,6 @@ pub const fn local_reading(unix_time: i64, ut_offset: i32) -> Option<i64> {
 
 impl Fields {
     /// The fields with these values.
-    #[inline(always)]
     pub const fn new(
         year: i32,
         month: u8,

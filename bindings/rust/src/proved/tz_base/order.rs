@@ -3,25 +3,21 @@
 //! trait.
 
 /// The lesser of two numbers of 32 bits.
-#[inline(always)]
 pub const fn lesser_i32(a: i32, b: i32) -> i32 {
     if b < a { b } else { a }
 }
 
 /// The greater of two numbers of 32 bits.
-#[inline(always)]
 pub const fn greater_i32(a: i32, b: i32) -> i32 {
     if b < a { a } else { b }
 }
 
 /// The lesser of two numbers of 64 bits.
-#[inline(always)]
 pub const fn lesser_i64(a: i64, b: i64) -> i64 {
     if a < b { a } else { b }
 }
 
 /// The greater of two numbers of 64 bits.
-#[inline(always)]
 pub const fn greater_i64(a: i64, b: i64) -> i64 {
     if a < b { b } else { a }
 }

@@ -363,7 +363,6 @@ pub struct FoundData {
 
 impl UtcData {
     /// The data of a date time.
-    #[inline(always)]
     pub const fn of(date_time: &UtcDateTime) -> Self {
         UtcData {
             fields: *date_time.fields(),
@@ -374,7 +373,6 @@ impl UtcData {
 
 impl DateTimeData {
     /// The data of a date time.
-    #[inline(always)]
     pub const fn of(date_time: &DateTime) -> Self {
         DateTimeData {
             fields: *date_time.fields(),
@@ -385,7 +383,6 @@ impl DateTimeData {
 }
 
 impl Slot for FoundData {
-    #[inline(always)]
     fn set(&mut self, found: &FoundDateTimeKind) {
         let (before, after) = found.sides();
         self.is_skipped = matches!(found, FoundDateTimeKind::Skipped { .. });

@@ -47,14 +47,12 @@ impl Parts {
 
     /// How many seconds after 00:00 UTC of January 1st daylight saving time starts, by the kind of
     /// the year. `day` is the part `dst_start` as a `RuleDay`, which saves its conversion.
-    #[inline(always)]
     pub(super) const fn starts(&self, day: &RuleDay) -> YearTable {
         YearTable::of_day(day, self.dst_start_time - self.std.ut_offset())
     }
 
     /// How many seconds after 00:00 UTC of January 1st it ends, by the kind of the year. `day` is
     /// the part `dst_end`.
-    #[inline(always)]
     pub(super) const fn ends(&self, day: &RuleDay) -> YearTable {
         YearTable::of_day(day, self.dst_end_time - self.dst.ut_offset())
     }
@@ -240,7 +238,6 @@ pub struct AlternateData {
 
 impl AlternateData {
     /// The rule with these parts, as `AlternateTime::new` makes it.
-    #[inline(always)]
     pub const fn new(
         std: LocalTimeType,
         dst: LocalTimeType,
@@ -263,7 +260,6 @@ impl AlternateData {
     }
 
     /// The rule of parts in range with their tables, whose starts and ends keep their order.
-    #[inline(always)]
     pub(super) const fn of_tables(
         parts: Parts,
         starts: YearTable,
@@ -355,7 +351,6 @@ impl AlternateData {
     }
 
     /// The table of the starts of daylight saving time, or of its ends.
-    #[inline(always)]
     pub(super) const fn table(&self, is_end: bool) -> &YearTable {
         if is_end { &self.ends } else { &self.starts }
     }
@@ -368,13 +363,11 @@ impl AlternateData {
 
     /// Whether the end comes before the start in some year, so that daylight saving time lasts from
     /// each start to its end in the next year.
-    #[inline(always)]
     pub(crate) const fn ends_next_year(&self) -> bool {
         self.ends_next_year
     }
 
     /// Whether each start and each end is ten days or more from the ends of its year.
-    #[inline(always)]
     pub(super) const fn has_inner_switches(&self) -> bool {
         self.has_inner_switches
     }

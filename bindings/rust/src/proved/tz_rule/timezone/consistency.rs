@@ -30,19 +30,16 @@ const FIRST_MODEL_YEAR: i32 = 1972;
 const MODEL_YEARS: u8 = 29;
 
 /// The kind of the first year of a pair kind.
-#[inline(always)]
 const fn first_kind(pair: usize) -> usize {
     FIRST_KINDS[pair] as usize
 }
 
 /// The kind of the second year of a pair kind.
-#[inline(always)]
 const fn second_kind(pair: usize) -> usize {
     SECOND_KINDS[pair] as usize
 }
 
 /// The days of the first year of a pair kind.
-#[inline(always)]
 const fn first_days(pair: usize) -> u16 {
     if pair < 14 { 365 } else { 366 }
 }

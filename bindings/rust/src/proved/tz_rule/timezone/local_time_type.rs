@@ -22,7 +22,6 @@ pub struct LocalTimeType {
 }
 
 impl PartialEq for LocalTimeType {
-    #[inline(always)]
     fn eq(&self, other: &LocalTimeType) -> bool {
         self.is_same(other)
     }
@@ -44,14 +43,12 @@ impl fmt::Debug for LocalTimeType {
 static NAME_BITS: [u32; 8] = [0, 0x03ff_2800, 0x07ff_fffe, 0x07ff_fffe, 0, 0, 0, 0];
 
 /// Whether a name may have the byte.
-#[inline(always)]
 const fn is_designation_byte(byte: u8) -> bool {
     NAME_BITS[(byte / 32) as usize] >> (byte % 32) & 1 == 1
 }
 
 impl Designation {
     /// No name.
-    #[inline(always)]
     const fn none() -> Designation {
         Designation {
             bytes: [0; 7],
@@ -60,7 +57,6 @@ impl Designation {
     }
 
     /// Checks and stores a name.
-    #[inline(always)]
     const fn new(name: &[u8]) -> Result<Designation, LocalTimeTypeError> {
         let len = name.len();
         if len < 1 || len > 7 {
@@ -82,7 +78,6 @@ impl Designation {
     }
 
     /// The bytes and the length, as one number.
-    #[inline(always)]
     const fn word(&self) -> u64 {
         let [b0, b1, b2, b3, b4, b5, b6] = self.bytes;
         u64::from_le_bytes([b0, b1, b2, b3, b4, b5, b6, self.len])
@@ -173,7 +168,6 @@ impl LocalTimeType {
 
     /// Whether the other type has the same offset, daylight flag and name. This is what `==`
     /// returns, in a form that Rust can compute in a constant.
-    #[inline(always)]
     pub const fn is_same(&self, other: &LocalTimeType) -> bool {
         // The words compare the eight bytes of each name at once.
         self.ut_offset == other.ut_offset

@@ -6,7 +6,6 @@ use crate::proved::tz_base::error::TransitionRuleError;
 
 /// The day of a month of this length, counted from 0, on which a week day falls for the w-th time,
 /// or for week 5 for the last time, if it first falls on day `first`.
-#[inline(always)]
 const fn nth_week_day(first: u8, days: u8, week: u8) -> u8 {
     let day = first + 7 * (week - 1);
     if day < days { day } else { day - 7 }
@@ -21,7 +20,6 @@ const fn least_day(days: u8, week: u8) -> u8 {
 
 /// The day of a year that begins one week day later: a day earlier, or the last of the seven days
 /// that it may be if it was the first.
-#[inline(always)]
 const fn year_day_before(year_day: u16, least: u16) -> u16 {
     if year_day == least {
         least + 6
@@ -212,7 +210,6 @@ pub struct DayData {
 
 impl DayData {
     /// The numbers of a rule day.
-    #[inline(always)]
     pub const fn of(day: &RuleDay) -> Self {
         match day {
             RuleDay::Julian0WithLeap(day) => DayData {
@@ -251,7 +248,6 @@ impl DayData {
     }
 
     /// The rule day with these numbers.
-    #[inline(always)]
     pub const fn day(&self) -> RuleDay {
         match self.kind {
             0 => RuleDay::Julian0WithLeap(Julian0WithLeap(self.number)),

@@ -182,7 +182,6 @@ impl AlternateData {
     }
 
     /// The segment around an instant that the likely year does not always determine.
-    #[inline(never)]
     const fn outer_segment(&self, unix_time: i64) -> RuleSegment<'_> {
         if let Some(segment) = self.likely_segment(unix_time) {
             return self.rule_segment(unix_time, segment);
