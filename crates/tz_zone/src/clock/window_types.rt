@@ -1,8 +1,9 @@
 //! The types that a clock has in a window of instants, and its spans one after the other.
 
-ghost use Rattle.std.specs.Prelude.{◌≡◌, ◌⊎◌, ℕ, ℤ, pos, ◌+◌, ◌^◌, ◌<◌, ◌≤◌, ◌≤ℤ◌, ◌<ℤ◌, [], length, IfSome, MatchOption, ◌≢◌, ◌==◌, Some};
+ghost use Rattle.std.specs.Prelude.{◌≡◌, ◌⊎◌, ℕ, ℤ, pos, ◌+◌, ◌+ℤ◌, ◌^◌, ◌<◌, ◌≤◌, ◌≤ℤ◌, ◌<ℤ◌, [], length, IfSome, MatchOption, ◌≢◌, ◌==◌, Some};
 ghost use Rattle.tz_zone.specs.Clock.{IsClock, HasNoType, IsPositionAt, IsTypeAfterTable};
 ghost use Rattle.tz_zone.specs.ClockSpans.{IsStage};
+ghost use Rattle.tz_zone.specs.TableChanges.{IsChangeByRule};
 ghost use Rattle.tz_zone.specs.WindowTypes.{IsPositionOf, AreTypesIn, IfMore};
 ghost use Rattle.tz_zone.specs.ZoneOfData.{zone_of_data};
 ghost use Rattle.tz_zone.specs.LeapTime.{IsLeapTime};
@@ -108,6 +109,8 @@ pub fn span_from<'a, V: Transitions>(
     ensures onward { ((result.next.position ≡ stage.entry.position) × (since ≤ℤ result.last))
         ⊎ (result.next.position ≡ stage.entry.position + 1) }
     ensures within { result.next.position ≤ length (V.list view.old) }
+    ensures whole { stage.entry.position ≡ length (V.list view.old) → (result.last ≡ high)
+        ⊎ IsChangeByRule (zone_of_data zone.now).extra_rule (result.last +ℤ pos 1) }
     ensures kept { V.looks view.old ≤ V.looks view.new }
     ensures at_most { V.looks view.new + stage.entry.position ≤ V.looks view.old
         + result.next.position }

@@ -1,12 +1,8 @@
 -- Up to the second before the next transition takes effect, or to the end of the rule's segment.
-use Rattle.std.proofs.Common.{◌≡◌, inl, inr, refl, arith, rules, length, pos, ◌≤ℤ◌, ◌<ℤ◌}
-use Rattle.std.proofs.lemmas.Int.{ints, to_z-of_z}
-use mir.Syntax.{w64}
-use Rattle.tz_zone.specs.ZoneOfData.{zone_of_data}
+use Rattle.tz_zone.proofs.Common.{◌≡◌, ℤ, arith, to_z-of_z, rules, ints, w64, refl, sym, inr, inl, length, ◌∙◌, subst, ◌≤ℤ◌, ◌<ℤ◌, pos, ◌+ℤ◌, zone_of_data, IsChangeByRule}
 use Rattle.tz_zone.proofs.LeapTimes.{instant_bounds}
 use Rattle.tz_zone.proofs.OffsetBounds.{int_min_either}
-use Rattle.tz_zone.proofs.ClockStages.{types_after_table, stage_later, all_reached_later, defined_at_first}
-use Rattle.tz_zone.proofs.ClockStages.{ahead_at_first, clock_before_next, stage_after_next}
+use Rattle.tz_zone.proofs.ClockStages.{types_after_table, stage_later, all_reached_later, defined_at_first, ahead_at_first, clock_before_next, stage_after_next}
 use Rattle.tz_zone.proofs.clock.window_types.span_from.Goals as goal
 
 pub returns-then-stage-count-clause-holds : goal.returns-then-stage-count-clause-holds
@@ -43,6 +39,19 @@ returns-then-stage-count-clause-onward g c =
       | inr e ↦ omega (arith, ints, cut.value, e, c.requires.window.0)
     ] in
     rw (to_z-of_z w64 c.min.result (search rules)) (inl (refl, since))
+
+pub returns-then-stage-count-clause-whole : goal.returns-then-stage-count-clause-whole
+returns-then-stage-count-clause-whole g c =
+    let rule = (zone_of_data c.args.zone.now).extra_rule in
+    let s = c.after_table-segment.result in
+    let high_is = to_z-of_z w64 c.args.high c.ranges.high in
+    let cut = rw (to_z-of_z w64 s.last (search rules), high_is) at c.min.ensures in
+    rw (to_z-of_z w64 c.min.result (search rules)) (λ all. elim (int_min_either s.last c.args.high) [
+      | inl e ↦ inr (subst (λ (last : ℤ). IsChangeByRule rule (last +ℤ pos 1)) (sym (cut.value ∙ e))
+          (c.after_table-segment.ensures.last (λ is.
+          absurd (omega (arith, ints, cut.value, e, cut.other_bound, c.requires.window.1, is)))))
+      | inr e ↦ inl (cut.value ∙ e)
+    ])
 
 pub last_before-requires-clause-before : goal.last_before-requires-clause-before
 last_before-requires-clause-before g c =
