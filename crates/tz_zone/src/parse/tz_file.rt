@@ -11,16 +11,7 @@ ghost use Rattle.std.specs.Int.{w32, w64, byte_len};
 ghost use Rattle.std.specs.List.{position_from};
 ghost use Rattle.tz_zone.specs.FileSizes.{AreSizesOf};
 ghost use Rattle.tz_zone.specs.Table.{Zone};
-ghost use Rattle.tz_zone.specs.TzFile.{number_at, signed_at, IsVersion, MayHold, is_extended};
-ghost use Rattle.tz_zone.specs.TzFile.{header_len, AreCounts, counts_of, HasMagic};
-ghost use Rattle.tz_zone.specs.TzFile.{IsIndicatorCount, IsHeader, indexes_at, types_at, names_at};
-ghost use Rattle.tz_zone.specs.TzFile.{leaps_at, std_walls_at, ut_locals_at, end_at, block_with};
-ghost use Rattle.tz_zone.specs.TzFile.{part_with, IsUnit, part_of, footer_of, IsFramed, change_at};
-ghost use Rattle.tz_zone.specs.TzFile.{transitions_of, type_at, name_at as name_in, designation_of};
-ghost use Rattle.tz_zone.specs.TzFile.{types_of, IsFlag, HasName, IsTypeRecord, leap_at, leaps_of};
-ghost use Rattle.tz_zone.specs.TzFile.{IsIndicatorPair, HasIndicators, IsContent, trimmed};
-ghost use Rattle.tz_zone.specs.TzFile.{IsBetweenLineFeeds, MayBeText, IsFooter, IsExtraRule};
-ghost use Rattle.tz_zone.specs.TzFile.{IsTzFile};
+ghost use Rattle.tz_zone.specs.TzFile as Spec;
 ghost use Rattle.tz_zone.specs.TzFileFault.{HeaderFails, UnitFails, FrameFails, TypeFails};
 ghost use Rattle.tz_zone.specs.TzFileFault.{SomeTypeFails, IndicatorsFail, ContentFails};
 ghost use Rattle.tz_zone.specs.TzFileFault.{FooterFails, ExtraRuleFails, IsReadFault};
@@ -63,7 +54,7 @@ fn eight_at(bytes: &[u8], at: usize) -> [u8; 8]
 #[tactic(auto, unfolding(crate::specs::TzFile::number_at))]
 fn count_at(bytes: &[u8], at: usize) -> u32
     requires { at + 4 ≤ length bytes.now }
-    ensures { result ≡ number_at w32 bytes.now at }
+    ensures { result ≡ Spec.number_at w32 bytes.now at }
 {
     u32::from_be_bytes(four_at(bytes, at))
 }
@@ -72,7 +63,7 @@ fn count_at(bytes: &[u8], at: usize) -> u32
 #[tactic(auto, unfolding(crate::specs::TzFile::number_at, crate::specs::TzFile::signed_at))]
 fn signed_at(bytes: &[u8], at: usize) -> i32
     requires { at + 4 ≤ length bytes.now }
-    ensures { result ≡ signed_at w32 bytes.now at }
+    ensures { result ≡ Spec.signed_at w32 bytes.now at }
 {
     i32::from_be_bytes(four_at(bytes, at))
 }
@@ -81,7 +72,7 @@ fn signed_at(bytes: &[u8], at: usize) -> i32
 #[tactic(auto, unfolding(crate::specs::TzFile::number_at, crate::specs::TzFile::signed_at))]
 fn long_signed_at(bytes: &[u8], at: usize) -> i64
     requires { at + 8 ≤ length bytes.now }
-    ensures { result ≡ signed_at w64 bytes.now at }
+    ensures { result ≡ Spec.signed_at w64 bytes.now at }
 {
     i64::from_be_bytes(eight_at(bytes, at))
 }
@@ -89,7 +80,7 @@ fn long_signed_at(bytes: &[u8], at: usize) -> i64
 /// The time at a position.
 fn time_at(size: TimeSize, bytes: &[u8], at: usize) -> i64
     requires { at + byte_len (width_of size) ≤ length bytes.now }
-    ensures { result ≡ signed_at (width_of size) bytes.now at }
+    ensures { result ≡ Spec.signed_at (width_of size) bytes.now at }
 {
     match size {
         TimeSize::Four => i64::from(signed_at(bytes, at)),
@@ -143,14 +134,14 @@ impl TimeSize {
 
 /// Whether the byte is that of a version that is read. The byte of version 1 is 0.
 fn is_version(byte: u8) -> bool
-    ensures { MatchBool result (IsVersion byte) (¬ IsVersion byte) }
+    ensures { MatchBool result (Spec.IsVersion byte) (¬ Spec.IsVersion byte) }
 {
     matches!(byte, 0 | b'2' | b'3' | b'4')
 }
 
 /// Whether the version of a unit allows an extended TZ string after it. (RFC 8536, section 3.3.1)
 fn is_extended(unit: &Unit<'_>) -> bool
-    ensures { result ≡ is_extended (unit_view unit.now) }
+    ensures { result ≡ Spec.is_extended (unit_view unit.now) }
 {
     unit.version == b'3' || unit.version == b'4'
 }
@@ -158,8 +149,8 @@ fn is_extended(unit: &Unit<'_>) -> bool
 /// Whether a block of this version may hold these leap seconds: before version 4 their table
 /// neither has a truncated start nor expires.
 fn may_hold(version: u8, leap_seconds: &[LeapSecond]) -> bool
-    ensures { MatchBool result (MayHold version leap_seconds.now)
-        (¬ MayHold version leap_seconds.now) }
+    ensures { MatchBool result (Spec.MayHold version leap_seconds.now)
+        (¬ Spec.MayHold version leap_seconds.now) }
 {
     version == b'4' || is_plain_table(leap_seconds)
 }
@@ -181,8 +172,8 @@ struct Counts {
 
 /// Whether a header with this number of types may have this number of indicators.
 fn is_indicator_count(count: u32, local_types: u32) -> bool
-    ensures { MatchBool result (IsIndicatorCount count local_types)
-        (¬ IsIndicatorCount count local_types) }
+    ensures { MatchBool result (Spec.IsIndicatorCount count local_types)
+        (¬ Spec.IsIndicatorCount count local_types) }
 {
     count == 0 || count == local_types
 }
@@ -191,8 +182,8 @@ impl Counts {
     /// The counts of a header.
     #[tactic(auto, unfolding(crate::specs::TzFile::counts_of))]
     fn read(bytes: &[u8]) -> Self
-        requires { header_len ≤ length bytes.now }
-        ensures { counts_view result ≡ counts_of bytes.now }
+        requires { Spec.header_len ≤ length bytes.now }
+        ensures { counts_view result ≡ Spec.counts_of bytes.now }
     {
         Counts {
             ut_local: count_at(bytes, 20),
@@ -206,7 +197,8 @@ impl Counts {
 
     /// Whether the counts fit together.
     fn are_counts(self) -> bool
-        ensures { MatchBool result (AreCounts (counts_view self)) (¬ AreCounts (counts_view self)) }
+        ensures { MatchBool result (Spec.AreCounts (counts_view self)) (¬ Spec.AreCounts
+            (counts_view self)) }
     {
         self.local_type != 0
             && self.char != 0
@@ -218,15 +210,15 @@ impl Counts {
 /// Whether the first bytes are those of a TZif file.
 fn has_magic(bytes: &[u8]) -> bool
     requires { 4 ≤ length bytes.now }
-    ensures { MatchBool result (HasMagic bytes.now) (¬ HasMagic bytes.now) }
+    ensures { MatchBool result (Spec.HasMagic bytes.now) (¬ Spec.HasMagic bytes.now) }
 {
     bytes.starts_with(b"TZif")
 }
 
 /// Reads the header at the front.
 fn read_header(bytes: &[u8]) -> Result<Counts, TzFileError>
-    ensures value { IfOk result (λ counts. counts_view counts ≡ counts_of bytes.now) }
-    ensures ok { OnOk result (IsHeader bytes.now) }
+    ensures value { IfOk result (λ counts. counts_view counts ≡ Spec.counts_of bytes.now) }
+    ensures ok { OnOk result (Spec.IsHeader bytes.now) }
     ensures err { IfErr result (HeaderFails bytes.now) }
 {
     if bytes.len() < 4 {
@@ -269,13 +261,13 @@ impl Layout {
     /// The layout of a block with these counts.
     fn new(size: TimeSize, counts: Counts) -> Self
         ensures { result ≡ record {
-          indexes = indexes_at (width_of size) (counts_view counts);
-          types = types_at (width_of size) (counts_view counts);
-          names = names_at (width_of size) (counts_view counts);
-          leaps = leaps_at (width_of size) (counts_view counts);
-          std_walls = std_walls_at (width_of size) (counts_view counts);
-          ut_locals = ut_locals_at (width_of size) (counts_view counts);
-          end = end_at (width_of size) (counts_view counts);
+          indexes = Spec.indexes_at (width_of size) (counts_view counts);
+          types = Spec.types_at (width_of size) (counts_view counts);
+          names = Spec.names_at (width_of size) (counts_view counts);
+          leaps = Spec.leaps_at (width_of size) (counts_view counts);
+          std_walls = Spec.std_walls_at (width_of size) (counts_view counts);
+          ut_locals = Spec.ut_locals_at (width_of size) (counts_view counts);
+          end = Spec.end_at (width_of size) (counts_view counts);
         } }
     {
         let indexes = HEADER_LEN as u64 + size.times_len(counts.transition);
@@ -323,8 +315,9 @@ struct Unit<'a> {
 #[inline(always)]
 #[tactic(auto, unfolding(crate::specs::TzFile::block_with))]
 fn cut_block(size: TimeSize, counts: Counts, bytes: &[u8]) -> Block<'_>
-    requires { end_at (width_of size) (counts_view counts) ≤ length bytes.now }
-    ensures value { block_view result ≡ block_with (width_of size) (counts_view counts) bytes.now }
+    requires { Spec.end_at (width_of size) (counts_view counts) ≤ length bytes.now }
+    ensures value { block_view result ≡ Spec.block_with (width_of size)
+        (counts_view counts) bytes.now }
     ensures sizes { HasSizes (width_of size) (counts_view counts) (block_view result) }
 {
     let layout = Layout::new(size, counts);
@@ -343,9 +336,10 @@ fn cut_block(size: TimeSize, counts: Counts, bytes: &[u8]) -> Block<'_>
 #[inline(always)]
 #[tactic(auto, unfolding(crate::specs::TzFile::after))]
 fn read_unit(size: TimeSize, bytes: &[u8]) -> Result<Unit<'_>, TzFileError>
-    ensures value { IfOk result (λ unit. unit_view unit ≡ part_with (width_of size) bytes.now) }
+    ensures value { IfOk result (λ unit. unit_view unit ≡ Spec.part_with
+        (width_of size) bytes.now) }
     ensures sizes { IfOk result IsSized }
-    ensures ok { OnOk result (IsUnit (width_of size) bytes.now) }
+    ensures ok { OnOk result (Spec.IsUnit (width_of size) bytes.now) }
     ensures err { IfErr result (UnitFails (width_of size) bytes.now) }
 {
     let counts = read_header(bytes)?;
@@ -375,10 +369,10 @@ struct Frame<'a> {
 /// Cuts the file: all slices of it that are read.
 #[inline(always)]
 fn read_frame(bytes: &[u8]) -> Result<Frame<'_>, TzFileError>
-    ensures unit { IfOk result (λ frame. unit_view frame.unit ≡ part_of bytes.now) }
-    ensures footer { IfOk result (λ frame. option_copied frame.footer ≡ footer_of bytes.now) }
+    ensures unit { IfOk result (λ frame. unit_view frame.unit ≡ Spec.part_of bytes.now) }
+    ensures footer { IfOk result (λ frame. option_copied frame.footer ≡ Spec.footer_of bytes.now) }
     ensures sizes { IfOk result (λ frame. IsSized frame.unit) }
-    ensures ok { OnOk result (IsFramed bytes.now) }
+    ensures ok { OnOk result (Spec.IsFramed bytes.now) }
     ensures err { IfErr result (FrameFails bytes.now) }
 {
     // In later versions the first unit is for readers of version 1: of its block only the length is
@@ -414,7 +408,7 @@ pub struct FileSizes {
 /// The sizes of a file whose headers and blocks are whole. Its tables are not looked at.
 pub fn file_sizes(bytes: &[u8]) -> Result<FileSizes, TzFileError>
     ensures sizes { IfOk result (AreSizesOf bytes.now) }
-    ensures ok { OnOk result (IsFramed bytes.now) }
+    ensures ok { OnOk result (Spec.IsFramed bytes.now) }
     ensures err { IfErr result (FrameFails bytes.now) }
 {
     let frame = read_frame(bytes)?;
@@ -439,7 +433,7 @@ fn transition_at(size: TimeSize, unit: &Unit<'_>, index: u32) -> Transition
     requires size { size ≡ unit.now.size }
     requires sized { IsSized unit.now }
     requires within { index < unit.now.counts.transition }
-    ensures { result ≡ change_at (width_of unit.now.size) (block_view unit.now.block) index }
+    ensures { result ≡ Spec.change_at (width_of unit.now.size) (block_view unit.now.block) index }
 {
     let at = size.times_len(index) as usize;
     let unix_leap_time = time_at(size, unit.block.times, at);
@@ -457,7 +451,7 @@ fn read_transitions_of<A: Allocator + Copy>(
 ) -> Result<Vec<Transition, A>, AllocError>
     requires size { size ≡ unit.now.size }
     requires sized { IsSized unit.now }
-    ensures { IfOk result (λ v. v.items ≡ transitions_of
+    ensures { IfOk result (λ v. v.items ≡ Spec.transitions_of
         (width_of unit.now.size) (block_view unit.now.block) unit.now.counts.transition) }
 {
     let mut transitions = Vec::with_capacity(alloc, unit.counts.transition as usize)?;
@@ -473,7 +467,7 @@ fn read_transitions<A: Allocator + Copy>(
     unit: &Unit<'_>,
 ) -> Result<Vec<Transition, A>, AllocError>
     requires { IsSized unit.now }
-    ensures { IfOk result (λ v. v.items ≡ transitions_of
+    ensures { IfOk result (λ v. v.items ≡ Spec.transitions_of
         (width_of unit.now.size) (block_view unit.now.block) unit.now.counts.transition) }
 {
     match unit.size {
@@ -484,8 +478,8 @@ fn read_transitions<A: Allocator + Copy>(
 
 /// The daylight flag of a type.
 fn read_daylight_flag(byte: u8) -> Result<bool, TzFileError>
-    ensures ok { IfOk result (λ daylight. (daylight ≡ (byte == 1)) × IsFlag byte) }
-    ensures err { IfErr result (λ e. (e ≡ file.InvalidDstIndicator) × ¬ IsFlag byte) }
+    ensures ok { IfOk result (λ daylight. (daylight ≡ (byte == 1)) × Spec.IsFlag byte) }
+    ensures err { IfErr result (λ e. (e ≡ file.InvalidDstIndicator) × ¬ Spec.IsFlag byte) }
 {
     match byte {
         0 => Ok(false),
@@ -503,8 +497,9 @@ fn first_zero(bytes: &[u8]) -> Option<usize>
 
 /// The name at an index of the name bytes, if a zero byte ends it.
 fn name_at(names: &[u8], index: usize) -> Option<&[u8]>
-    ensures { MatchOption result (¬ HasName names.now index) (λ name. HasName names.now index
-        × (name.now ≡ name_in names.now index)) }
+    ensures { MatchOption result (¬ Spec.HasName names.now index)
+        (λ name. Spec.HasName names.now index
+        × (name.now ≡ Spec.name_at names.now index)) }
 {
     if names.len() < index {
         return None;
@@ -519,7 +514,7 @@ fn name_at(names: &[u8], index: usize) -> Option<&[u8]>
 /// The name, where it is not empty.
 #[tactic(auto, unfolding(crate::specs::TzFile::designation_of))]
 fn non_empty(name: &[u8]) -> Option<&[u8]>
-    ensures { option_copied result ≡ designation_of name.now }
+    ensures { option_copied result ≡ Spec.designation_of name.now }
 {
     if name.is_empty() { None } else { Some(name) }
 }
@@ -529,8 +524,8 @@ fn non_empty(name: &[u8]) -> Option<&[u8]>
 fn read_type(unit: &Unit<'_>, index: u32) -> Result<LocalTimeType, TzError>
     requires sized { IsSized unit.now }
     requires within { index < unit.now.counts.local_type }
-    ensures value { IfOk result (λ t. t ≡ type_at (block_view unit.now.block) index) }
-    ensures ok { OnOk result (IsTypeRecord (block_view unit.now.block) index) }
+    ensures value { IfOk result (λ t. t ≡ Spec.type_at (block_view unit.now.block) index) }
+    ensures ok { OnOk result (Spec.IsTypeRecord (block_view unit.now.block) index) }
     ensures err { IfErr result (TypeFails (block_view unit.now.block) index) }
 {
     let at = index as usize * 6;
@@ -551,9 +546,9 @@ fn read_types<A: Allocator + Copy>(
 ) -> Result<Vec<LocalTimeType, A>, TzError>
     requires { IsSized unit.now }
     ensures value { IfOk result
-        (λ v. v.items ≡ types_of (block_view unit.now.block) unit.now.counts.local_type) }
+        (λ v. v.items ≡ Spec.types_of (block_view unit.now.block) unit.now.counts.local_type) }
     ensures ok { OnOk result ((i : ℕ) → i < unit.now.counts.local_type
-        → IsTypeRecord (block_view unit.now.block) i) }
+        → Spec.IsTypeRecord (block_view unit.now.block) i) }
     ensures err { IfErr result (λ e. (e ≡ TzError.Memory alloc_error)
         ⊎ SomeTypeFails (block_view unit.now.block) unit.now.counts.local_type e) }
 {
@@ -569,7 +564,7 @@ fn read_types<A: Allocator + Copy>(
 fn leap_second_at(unit: &Unit<'_>, index: u32) -> LeapSecond
     requires sized { IsSized unit.now }
     requires within { index < unit.now.counts.leap }
-    ensures { result ≡ leap_at (width_of unit.now.size) (block_view unit.now.block) index }
+    ensures { result ≡ Spec.leap_at (width_of unit.now.size) (block_view unit.now.block) index }
 {
     let at = unit.size.leaps_len(index) as usize;
     let unix_leap_time = time_at(unit.size, unit.block.leaps, at);
@@ -584,7 +579,7 @@ fn read_leap_seconds<A: Allocator + Copy>(
     unit: &Unit<'_>,
 ) -> Result<Vec<LeapSecond, A>, AllocError>
     requires { IsSized unit.now }
-    ensures { IfOk result (λ v. v.items ≡ leaps_of (width_of unit.now.size)
+    ensures { IfOk result (λ v. v.items ≡ Spec.leaps_of (width_of unit.now.size)
         (block_view unit.now.block)
         unit.now.counts.leap) }
 {
@@ -604,16 +599,16 @@ fn indicator_at(indicators: &[u8], index: u32) -> u8
 
 /// Whether a type may have these indicators.
 fn is_pair(std_wall: u8, ut_local: u8) -> bool
-    ensures { MatchBool result (IsIndicatorPair std_wall ut_local)
-        (¬ IsIndicatorPair std_wall ut_local) }
+    ensures { MatchBool result (Spec.IsIndicatorPair std_wall ut_local)
+        (¬ Spec.IsIndicatorPair std_wall ut_local) }
 {
     matches!((std_wall, ut_local), (0, 0) | (1, 0) | (1, 1))
 }
 
 /// Whether the indicators of a type go together.
 fn has_indicators(unit: &Unit<'_>, index: u32) -> bool
-    ensures { MatchBool result (HasIndicators (block_view unit.now.block) index)
-        (¬ HasIndicators (block_view unit.now.block) index) }
+    ensures { MatchBool result (Spec.HasIndicators (block_view unit.now.block) index)
+        (¬ Spec.HasIndicators (block_view unit.now.block) index) }
 {
     let std_wall = indicator_at(unit.block.std_walls, index);
     let ut_local = indicator_at(unit.block.ut_locals, index);
@@ -623,7 +618,7 @@ fn has_indicators(unit: &Unit<'_>, index: u32) -> bool
 /// Checks the indicators of all types.
 fn check_indicators(unit: &Unit<'_>) -> Result<(), TzFileError>
     ensures ok { OnOk result ((i : ℕ) → i < unit.now.counts.local_type
-        → HasIndicators (block_view unit.now.block) i) }
+        → Spec.HasIndicators (block_view unit.now.block) i) }
     ensures err { IfErr result (λ e. (e ≡ file.InvalidStdWallUtLocal)
         × IndicatorsFail (block_view unit.now.block) unit.now.counts.local_type) }
 {
@@ -648,7 +643,8 @@ struct Tables<A: Allocator + Copy = Global> {
 fn read_tables<A: Allocator + Copy>(alloc: A, unit: &Unit<'_>) -> Result<Tables<A>, TzError>
     requires { IsSized unit.now }
     ensures value { IfOk result (HasTables (unit_view unit.now)) }
-    ensures ok { OnOk result (IsContent (block_view unit.now.block) unit.now.counts.local_type) }
+    ensures ok { OnOk result (Spec.IsContent
+        (block_view unit.now.block) unit.now.counts.local_type) }
     ensures err { IfErr result (λ e. (e ≡ TzError.Memory alloc_error)
         ⊎ ContentFails (block_view unit.now.block) unit.now.counts.local_type e) }
 {
@@ -666,7 +662,8 @@ fn read_tables<A: Allocator + Copy>(alloc: A, unit: &Unit<'_>) -> Result<Tables<
 /// Whether the first and the last byte are line feeds. A single line feed is both, and is a footer
 /// without a text.
 fn is_between_line_feeds(footer: &[u8]) -> bool
-    ensures { MatchBool result (IsBetweenLineFeeds footer.now) (¬ IsBetweenLineFeeds footer.now) }
+    ensures { MatchBool result (Spec.IsBetweenLineFeeds footer.now)
+        (¬ Spec.IsBetweenLineFeeds footer.now) }
 {
     footer.first() == Some(&b'\n') && footer.last() == Some(&b'\n')
 }
@@ -680,22 +677,22 @@ fn has_zero(bytes: &[u8]) -> bool
 
 /// Whether a text may stand in a footer: it does not begin with a colon, and has no zero byte.
 fn may_be_text(text: &[u8]) -> bool
-    ensures { MatchBool result (MayBeText text.now) (¬ MayBeText text.now) }
+    ensures { MatchBool result (Spec.MayBeText text.now) (¬ Spec.MayBeText text.now) }
 {
     text.first() != Some(&b':') && !has_zero(text)
 }
 
 /// The bytes without white space at their ends.
 fn trim(bytes: &[u8]) -> &[u8]
-    ensures { result.now ≡ trimmed bytes.now }
+    ensures { result.now ≡ Spec.trimmed bytes.now }
 {
     bytes.trim_ascii()
 }
 
 /// The text of a footer.
 fn footer_text(footer: &[u8]) -> Result<&[u8], TzFileError>
-    ensures value { IfOk result (λ text. text.now ≡ trimmed footer.now) }
-    ensures ok { OnOk result (IsFooter footer.now) }
+    ensures value { IfOk result (λ text. text.now ≡ Spec.trimmed footer.now) }
+    ensures ok { OnOk result (Spec.IsFooter footer.now) }
     ensures err { IfErr result (FooterFails footer.now) }
 {
     str::from_utf8(footer)?;
@@ -709,7 +706,7 @@ fn footer_text(footer: &[u8]) -> Result<&[u8], TzFileError>
 /// The rule of a footer, if its text is not empty.
 #[inline(always)]
 fn read_footer(footer: &[u8], extended: bool) -> Result<Option<TransitionRule>, TzError>
-    ensures ok { IfOk result (IsExtraRule extended (Some footer.now)) }
+    ensures ok { IfOk result (Spec.IsExtraRule extended (Some footer.now)) }
     ensures err { IfErr result (ExtraRuleFails extended (Some footer.now)) }
 {
     let text = footer_text(footer)?;
@@ -725,7 +722,7 @@ fn read_footer(footer: &[u8], extended: bool) -> Result<Option<TransitionRule>, 
 /// The rule of a file that may have a footer.
 #[inline(always)]
 fn read_extra_rule(footer: Option<&[u8]>, extended: bool) -> Result<Option<TransitionRule>, TzError>
-    ensures ok { IfOk result (IsExtraRule extended (option_copied footer.entry)) }
+    ensures ok { IfOk result (Spec.IsExtraRule extended (option_copied footer.entry)) }
     ensures err { IfErr result (ExtraRuleFails extended (option_copied footer.entry)) }
 {
     match footer {
@@ -760,8 +757,8 @@ impl<A: Allocator + Copy> TimeZone<A> {
     ///   leap-second table, and otherwise the errors of [`TimeZone::new`], once all else is valid;
     /// - [`TzError::Memory`] if an allocation fails.
     pub fn from_tz_data(alloc: A, bytes: &[u8]) -> Result<Self, TzError>
-        ensures ok { IfOk result (λ zone. IsTzFile bytes.now (own_zone_of zone)) }
-        ensures only { (zone : Zone) → IsTzFile bytes.now zone
+        ensures ok { IfOk result (λ zone. Spec.IsTzFile bytes.now (own_zone_of zone)) }
+        ensures only { (zone : Zone) → Spec.IsTzFile bytes.now zone
             → MatchResult result (λ made. own_zone_of made ≡ zone)
             (λ e. e ≡ TzError.Memory alloc_error) }
         ensures err { IfErr result (IsReadFault bytes.now) }
@@ -773,7 +770,7 @@ impl<A: Allocator + Copy> TimeZone<A> {
 /// Reads a zone from the bytes of a file.
 #[inline(always)]
 fn parse_tz_file<A: Allocator + Copy>(alloc: A, bytes: &[u8]) -> Result<TimeZone<A>, TzError>
-    ensures ok { IfOk result (λ zone. IsTzFile bytes.now (own_zone_of zone)) }
+    ensures ok { IfOk result (λ zone. Spec.IsTzFile bytes.now (own_zone_of zone)) }
     ensures err { IfErr result (IsReadFault bytes.now) }
 {
     let frame = read_frame(bytes)?;
