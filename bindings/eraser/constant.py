@@ -1,4 +1,4 @@
-"""Makes functions `const fn` that are not in their sources: constants.txt names them. In them what rustc does not take in constants is written otherwise:
+"""Makes functions `const fn` that are not in their sources: constants.txt names them, or says every function of a source. In them what rustc does not take in constants is written otherwise:
 
     i64::from(x)                    x as i64                   and other integers that lose nothing
     let x = call()?;                let x = match call() { Ok(value) => value, Err(error) => return Err(error) };
@@ -13,6 +13,7 @@ from . import erasure
 from .structure import functions_of
 from .tokens import OPEN, Stop, closing, edited, line_of, tokens_of
 
+EVERY = "every function"
 INTEGERS = {"u8", "u16", "u32", "u64", "u128", "i16", "i32", "i64", "i128", "usize"}
 
 
@@ -22,7 +23,9 @@ def made_constant(path, text):
         return text
     edits = []
     for function in functions_of(path, text):
-        if function.name not in names:
+        if EVERY in names and re.search(r"\bconst fn\b", text[function.head : function.end]):
+            continue
+        if EVERY not in names and function.name not in names:
             continue
         names.discard(function.name)
         whole = text[function.head : function.end]
@@ -33,7 +36,7 @@ def made_constant(path, text):
                 raise Stop(f"{path}: in {function.name}: {stop}") from None
         whole = re.sub(r"\bfn\b", "const fn", whole, count=1)
         edits.append((function.head, function.end, whole))
-    if names:
+    if names - {EVERY}:
         raise Stop(f"{path}: there is no function {sorted(names)[0]}")
     return edited(text, edits)
 

@@ -183,7 +183,7 @@ def constants():
     with open(os.path.join(os.path.dirname(__file__), "constants.txt"), encoding="utf-8") as file:
         for line in file:
             if line.startswith(" "):
-                names.add(line.strip())
+                names.update(line.strip().rstrip(",").split(", "))
             elif not line.startswith("#"):
                 names = made.setdefault(line.strip(), set())
     return made

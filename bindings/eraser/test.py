@@ -67,6 +67,12 @@ class Stops(unittest.TestCase):
 
 
 class Cuts(unittest.TestCase):
+    def test_every_function_is_constant(self):
+        erasure.CONST[PATH] = {"every function"}
+        self.addCleanup(erasure.CONST.pop, PATH)
+        made = erased("fn one() {}\n\npub const fn two() {}\n")
+        self.assertEqual(made.split(), "const fn one() {} pub const fn two() {}".split())
+
     def test_clauses_and_ghosts(self):
         text = (
             "ghost use A.{b, c};\n\n"

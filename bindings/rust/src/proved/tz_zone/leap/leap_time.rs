@@ -162,7 +162,7 @@ pub(crate) const fn leap_time(leap_seconds: &[LeapSecond], unix_time: i64) -> Op
 }
 
 /// The leap time of an instant. (RFC 8536, section 2)
-pub fn leap(leap_seconds: &[LeapSecond], unix_time: i64) -> Result<i64, TzError> {
+pub const fn leap(leap_seconds: &[LeapSecond], unix_time: i64) -> Result<i64, TzError> {
     match leap_time_by_seconds(leap_seconds, unix_time) {
         Some(unix_leap_time) => Ok(unix_leap_time),
         None => Err(TzError::OutOfRange),
@@ -177,7 +177,7 @@ pub fn leap(leap_seconds: &[LeapSecond], unix_time: i64) -> Result<i64, TzError>
 /// bound, and one that ends long before the given leap time needs no second search of the leap
 /// seconds.
 #[inline(always)]
-pub(crate) fn stay_before(
+pub(crate) const fn stay_before(
     leap_seconds: &[LeapSecond],
     low: i64,
     low_leap_time: i64,
@@ -187,8 +187,8 @@ pub(crate) fn stay_before(
     if high > ALWAYS_DEFINED_UP_TO {
         return false;
     }
-    let seconds = i128::from(high) - i128::from(low);
-    i128::from(low_leap_time) + 3 * seconds < i128::from(unix_leap_time)
+    let seconds = high as i128 - low as i128;
+    low_leap_time as i128 + 3 * seconds < unix_leap_time as i128
 }
 
 /// The effect of a leap time that is not before a truncated start, in 128 bits: the leap time less

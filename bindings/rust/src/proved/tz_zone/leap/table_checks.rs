@@ -109,7 +109,7 @@ pub(crate) const fn has_begun_at(leap_seconds: &[LeapSecond], unix_leap_time: i6
 }
 
 /// The leap time at which the table expires: that of a last record with the correction before it.
-pub(crate) fn expiry(leap_seconds: &[LeapSecond]) -> Option<i64> {
+pub(crate) const fn expiry(leap_seconds: &[LeapSecond]) -> Option<i64> {
     if leap_seconds.len() < 2 {
         return None;
     }
@@ -123,7 +123,7 @@ pub(crate) fn expiry(leap_seconds: &[LeapSecond]) -> Option<i64> {
 
 /// Whether the table begins with its first leap second and does not expire, as in files before
 /// version 4.
-pub(crate) fn is_plain_table(leap_seconds: &[LeapSecond]) -> bool {
+pub(crate) const fn is_plain_table(leap_seconds: &[LeapSecond]) -> bool {
     truncated_start(leap_seconds).is_none() && expiry(leap_seconds).is_none()
 }
 
