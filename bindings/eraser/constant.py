@@ -1,4 +1,5 @@
-"""Makes functions `const fn` that are not in their sources: constants.txt names them, or says every function of a source. In them what rustc does not take in constants is written otherwise:
+"""Makes functions `const fn` that are not in their sources: constants.txt names them, or says every
+function of a source. In them what rustc does not take in constants is written otherwise:
 
     i64::from(x)                    x as i64                   and other integers that lose nothing
     let x = call()?;                let x = match call() { Ok(value) => value, Err(error) => return Err(error) };
