@@ -1,5 +1,5 @@
 -- The less and the greater of two numbers, and that an offset of a zone can be found among those that it has.
-use Rattle.tz_zone.proofs.Common.{◌≡◌, arith, ℕ, ints, refl, sym, inr, inl, ℤ, ◌∙◌, subst, ap, List, Some, LocalTimeType, Zone, [], Option, slice_get, ◌≢◌, None, false, same_Some, ◌∷◌, ◌⊎◌, suc, true, TransitionRule, zero, false≢true, cond, none-some, int_max, Fixed, Alternate, IsOffsetOfTypes, int_min, IsOffsetOfRule, zone_of_type, AreEndOffsets, Decides-int_eq, IsOffset, cases_Bool, int_lt}
+use Rattle.tz_zone.proofs.Common.{◌≡◌, arith, ℕ, ints, refl, sym, inr, inl, ℤ, ◌∙◌, subst, ap, List, Some, LocalTimeType, Zone, [], Option, slice_get, ◌≢◌, None, false, same_Some, ◌∷◌, ◌⊎◌, suc, true, TransitionRule, zero, false≢true, cond, none-some, int_max, Fixed, Alternate, IsOffsetOfTypes, int_min, IsOffsetOfRule, zone_of_type, AreEndOffsets, Decides-int_eq, IsOffset, cases_Bool, int_lt, ◌≤ℤ◌}
 use Rattle.std.specs.Ordering.{int_eq}
 use Rattle.std.proofs.Math.Logic.{∥∥₁_elim, ∥∥₁_map}
 use Rattle.std.proofs.Props.{props}
@@ -8,6 +8,10 @@ use Rattle.std.proofs.Props.{props}
 pub int_min_either : (x y : ℤ) → (int_min x y ≡ x) ⊎ (int_min x y ≡ y)
 int_min_either x y = elim (int_lt y x) as (λ t. (cond t y x ≡ x) ⊎ (cond t y x ≡ y))
     [ true ↦ inr refl | false ↦ inl refl ]
+
+pub int_min_from : (low x y : ℤ) → low ≤ℤ x → low ≤ℤ y → low ≤ℤ int_min x y
+int_min_from low x y first second = elim (int_lt y x) as (λ t. low ≤ℤ cond t y x)
+    [ true ↦ second | false ↦ first ]
 
 pub int_max_either : (x y : ℤ) → (int_max x y ≡ x) ⊎ (int_max x y ≡ y)
 int_max_either x y = elim (int_lt y x) as (λ t. (cond t x y ≡ x) ⊎ (cond t x y ≡ y))
