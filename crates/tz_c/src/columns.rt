@@ -87,7 +87,6 @@ struct Day {
 }
 
 /// The day of a reading.
-#[inline(never)]
 fn day_of(reading: i64) -> Day
     requires { IsReading reading }
     ensures day { IsDay result }

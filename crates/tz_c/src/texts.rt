@@ -33,7 +33,6 @@ use tz_zone::inner::{FileSizes, file_sizes, parse_posix_tz, plain};
 use tz_zone::timezone::{LeapSecond, TimeZone, Transition, is_zone_name};
 
 /// Copies a text to a buffer and stores its length, if there is room.
-#[inline(always)]
 pub(crate) fn write_text(given: &[u8], text: &mut [u8], len: &mut usize) -> u32
     ensures answer { IsTextAnswer given.now result text.old text.new len.new }
     ensures text_kept { result ≢ 0 → text.new ≡ text.old }

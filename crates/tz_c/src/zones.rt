@@ -189,7 +189,6 @@ pub extern "C" fn tz_alternate_conflict(
 }
 
 /// The rule of two lists that have one entry together, or none.
-#[inline(always)]
 pub(crate) fn rule_of_lists<'a>(
     fixed: &'a [LocalTimeType],
     alternate: &'a [AlternateData],

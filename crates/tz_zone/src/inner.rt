@@ -18,7 +18,6 @@ pub use crate::timezone::files::{open_fault, read_to_end};
 pub use crate::timezone::zone_data::{RuleSource, ZoneData};
 
 /// The zone's plain data.
-#[inline(always)]
 pub const fn plain<'a>(zone: &TimeZoneRef<'a>) -> ZoneData<'a>
     ensures { zone_of_data result ≡ zone_of zone.entry.now }
 {

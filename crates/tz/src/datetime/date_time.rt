@@ -176,7 +176,6 @@ impl DateTime {
     }
 
     /// The date time with valid fields, which the type shows at a Unix time.
-    #[inline(always)]
     pub(super) const fn of_fields(
         fields: &Fields,
         local_time_type: LocalTimeType,
@@ -466,7 +465,6 @@ impl DateTime {
     }
 
     /// The fields, which are valid and shown.
-    #[inline(always)]
     pub(crate) const fn fields(&self) -> &Fields
         ensures fields { result.now ≡ self.now.fields }
         ensures sound { IsDateTime self.now }
@@ -510,7 +508,6 @@ impl fmt::Display for DateTime {
 }
 
 /// The fields of a date time, which are valid.
-#[inline(always)]
 pub fn fields_of(date_time: &DateTime) -> &Fields
     ensures fields { result.now ≡ date_time.now.fields }
     ensures valid { IsValid result.now }

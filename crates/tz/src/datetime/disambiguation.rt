@@ -59,7 +59,6 @@ pub struct Ends<'a> {
 }
 
 /// A jump, if the local times before and after it are in the years of an `i32`.
-#[inline(always)]
 fn jump_inside<'a>(
     unix_time: i64,
     before: &'a LocalTimeType,
@@ -81,7 +80,6 @@ fn jump_inside<'a>(
 }
 
 /// One entry alone.
-#[inline(always)]
 fn alone<'a>(entry: Entry<'a>) -> FewEntries<'a>
     ensures { IsFew (entry_of entry.entry ∷ []) result }
 {
@@ -92,7 +90,6 @@ fn alone<'a>(entry: Entry<'a>) -> FewEntries<'a>
 }
 
 /// Two entries.
-#[inline(always)]
 fn both<'a>(first: Entry<'a>, last: Entry<'a>) -> FewEntries<'a>
     ensures { IsFew (entry_of first.entry ∷ entry_of last.entry ∷ []) result }
 {
@@ -111,7 +108,6 @@ impl<'a> Ends<'a> {
     ghost use Rattle.tz.specs.Ends.{IsEndsOf, IsMeantOf};
 
     /// No entries.
-    #[inline(always)]
     fn none() -> Self
         ensures { IsEndsOf [] result }
     {
@@ -124,7 +120,6 @@ impl<'a> Ends<'a> {
     }
 
     /// Counts one more, which is the last.
-    #[inline(always)]
     fn push(&mut self, entry: Entry<'a>)
         ensures count { self.new.count ≡ min (self.old.count + 1) usize.MAX }
         ensures first { self.new.first ≡ option_or self.old.first (Some entry.entry) }
@@ -138,7 +133,6 @@ impl<'a> Ends<'a> {
     }
 
     /// The entry that is meant, if there is one.
-    #[inline(always)]
     fn meant(&self, disambiguation: Disambiguation) -> Option<Entry<'a>>
         ensures { IsMeantOf disambiguation self.now result }
     {
@@ -156,7 +150,6 @@ impl<'a> Ends<'a> {
     ghost use Rattle.tz.specs.Ends.{AreFew};
 
     /// The entries, if they are few.
-    #[inline(always)]
     pub fn few(&self) -> FewEntries<'a>
         ensures { AreFew self.now result }
     {
@@ -186,7 +179,6 @@ impl<'a> EntryTaker<'a> for Ends<'a> {
 
     ghost refuses = { IsOutsideFault };
 
-    #[inline(always)]
     fn shown(&mut self, unix_time: i64, local_time_type: &'a LocalTimeType) -> Result<(), TzError> {
         let entry = Entry::Shown(unix_time, local_time_type);
         self.shown = self.shown.or(Some(entry));
@@ -194,7 +186,6 @@ impl<'a> EntryTaker<'a> for Ends<'a> {
         Ok(())
     }
 
-    #[inline(always)]
     fn skipped(
         &mut self,
         unix_time: i64,
@@ -207,10 +198,9 @@ impl<'a> EntryTaker<'a> for Ends<'a> {
     }
 }
 
-/// The ends of all that a reading has in its window. It is not inlined, and the zone is passed by
+/// The ends of all that a reading has in its window. It stands apart, and the zone is passed by
 /// value, so that the zone and the ends stay in registers where this is not called.
 #[cold]
-#[inline(never)]
 fn ends_by_walk<'a>(
     reading: i64,
     zone: ZoneData<'a>,
@@ -236,7 +226,6 @@ fn ends_by_walk<'a>(
 /// # Errors
 ///
 /// [`TzError::OutOfRange`] if a side of a jump is outside the years of an `i32`.
-#[inline(always)]
 pub fn ends_by_types<'a>(
     reading: i64,
     zone: &ZoneData<'a>,
@@ -260,10 +249,9 @@ pub fn ends_by_types<'a>(
     Ok(ends)
 }
 
-/// The entry that is meant of all that a reading has in its window. It is not inlined, as a window
+/// The entry that is meant of all that a reading has in its window. It stands apart, as a window
 /// seldom needs a walk.
 #[cold]
-#[inline(never)]
 fn meant_by_walk<'a>(
     reading: i64,
     disambiguation: Disambiguation,
@@ -287,7 +275,6 @@ fn meant_by_walk<'a>(
 /// The entry that is meant of all that a reading has in its window if the clock has one type before
 /// an instant, and another from there on. It decides as `give_around` does, but makes no ends, so
 /// that it is small enough to be inlined.
-#[inline(always)]
 fn meant_around<'a>(
     reading: i64,
     disambiguation: Disambiguation,
@@ -502,7 +489,6 @@ pub enum Disambiguation {
 }
 
 /// The instant at which the clock is looked up for a jump over the fields.
-#[inline(always)]
 fn lookup_instant(
     fields: &Fields,
     disambiguation: Disambiguation,
@@ -519,10 +505,9 @@ fn lookup_instant(
     fields.reading() - i64::from(local_time_type.ut_offset())
 }
 
-/// What the zone's clock shows at a Unix time. It is not inlined, so that the search, which seldom
-/// needs it, is.
+/// What the zone's clock shows at a Unix time. It stands apart from the search, which seldom needs
+/// it.
 #[cold]
-#[inline(never)]
 fn shown_apart(unix_time: i64, nanoseconds: u32, zone: &ZoneData<'_>) -> Result<DateTime, TzError>
     ensures ok { IfOk result (ShowsByClock (zone_of_data zone.now) unix_time nanoseconds) }
     ensures err { IfErr result (IsClockFault (zone_of_data zone.now) unix_time nanoseconds) }

@@ -127,7 +127,6 @@ impl Slot for Option<FoundDateTimeKind> {
 
     ghost holding = { Some };
 
-    #[inline(always)]
     fn set(&mut self, found: &FoundDateTimeKind) {
         *self = Some(*found);
     }
@@ -145,7 +144,6 @@ impl<'a, S: Slot> SlotWriter<'a, S> {
     ghost use Rattle.std.specs.Prelude.{◌≡◌, ◌+◌, ◌-◌, ◌<◌, ◌≤◌, length, min, slice_set};
 
     /// Nothing is found yet. The first entries, this many, get no slot.
-    #[inline(always)]
     pub(super) const fn new(slots: &'a mut [S], skip: usize) -> Self
         ensures same_reference { result.slots.ghost_name ≡ slots.entry.ghost_name }
         ensures slots { result.slots.now ≡ slots.old }

@@ -28,7 +28,6 @@ impl FoundDateTimeKind {
     ghost use Rattle.tz.specs.Found.{first_side, last_side};
 
     /// The date time twice, or the sides before and after the jump.
-    #[inline(always)]
     pub(crate) const fn sides(&self) -> (&DateTime, &DateTime)
         ensures first { result.0.now ≡ first_side self.now }
         ensures last { result.1.now ≡ last_side self.now }

@@ -27,7 +27,6 @@ use tz_zone::inner::{
 use tz_zone::timezone::LocalTimeType;
 
 /// The instant at which a type shows a reading.
-#[inline(always)]
 pub(super) fn shown_at(reading: i64, local_time_type: &LocalTimeType) -> i64
     requires { IsSmall reading }
     ensures { result ≡ reading -ℤ local_time_type.now.ut_offset }
@@ -37,7 +36,6 @@ pub(super) fn shown_at(reading: i64, local_time_type: &LocalTimeType) -> i64
 
 /// Whether clocks that change at an instant from one type to another are set forward over a
 /// reading.
-#[inline(always)]
 pub(super) fn passes_over(
     reading: i64,
     unix_time: i64,
@@ -124,7 +122,6 @@ fn give_around<'a, E: EntryTaker<'a>>(
 /// Gives all that a reading has in its window, in order, by the spans of the clock from the
 /// position on at which the window begins.
 #[cold]
-#[inline(never)]
 fn walk<'a, E: EntryTaker<'a>, V: Transitions>(
     entries: &mut E,
     reading: i64,
@@ -257,7 +254,6 @@ fn window(reading: i64, least: i32, greatest: i32) -> (i64, i64)
 
 /// The first and the last instant of a reading's window, by the least and the greatest offset of a
 /// zone.
-#[inline(always)]
 pub fn window_of(zone: &ZoneData<'_>, reading: i64) -> (i64, i64)
     requires { IsSmall reading }
     ensures window { IsWindow (zone_of_data zone.now).types (zone_of_data zone.now).extra_rule

@@ -38,9 +38,8 @@ pub fn from_timespec(
     DateTime::shown_by(unix_time, nanoseconds, *local_time_type)
 }
 
-/// Searches without writing anything. Not inlined, so that the search that writes stays small.
+/// Searches without writing anything. It stands apart, so that the search that writes stays small.
 #[cold]
-#[inline(never)]
 fn check_by_search(fields: &Fields, zone: &ZoneData<'_>) -> Result<(), TzError>
     requires { IsValid fields.now }
     ensures made { OnOk result (EachCanBeMade (IsClock (zone_of_data zone.now)) fields.now) }
@@ -52,7 +51,6 @@ fn check_by_search(fields: &Fields, zone: &ZoneData<'_>) -> Result<(), TzError>
 
 /// Searches for fields near the ends of the years, so that a search that is refused is refused
 /// before anything is written.
-#[inline(always)]
 fn check_entries(fields: &Fields, zone: &ZoneData<'_>) -> Result<(), TzError>
     requires { IsValid fields.now }
     ensures made { OnOk result (EachCanBeMade (IsClock (zone_of_data zone.now)) fields.now) }

@@ -102,7 +102,6 @@ fn index_of(local_time_type: &LocalTimeType) -> usize
 
 impl Suffix {
     /// The suffix of a type.
-    #[inline(never)]
     #[tactic(auto, unfolding(tz::specs::PrintedText::suffix_text))]
     pub fn new(local_time_type: LocalTimeType) -> Suffix
         ensures { result.local_time_type ≡ local_time_type }
@@ -167,7 +166,6 @@ impl<'a, A: Allocator + Copy> Answers<'a, A> {
     /// Answers the first line, whatever its numbers, and returns the position after that line.
     ///
     /// The position is a number, so that the call returns it in a register.
-    #[inline(never)]
     fn answer_any_line(&mut self, queries: &[u8]) -> Result<usize, AllocError>
         requires { IsSound self.old }
         ensures within { IfOk result (λ end. end ≤ length queries.now) }
@@ -189,7 +187,6 @@ impl<'a, A: Allocator + Copy> Answers<'a, A> {
     }
 
     /// Answers the first line, and returns the bytes after that line.
-    #[inline(always)]
     fn answer_line<'q>(&mut self, queries: &'q [u8]) -> Result<&'q [u8], AllocError>
         requires { IsSound self.old }
         ensures { IfOk result (λ rest. (line : List ℕ) × (answer : List (List ℕ))
@@ -320,7 +317,6 @@ impl<'a, A: Allocator + Copy> Answers<'a, A> {
     ghost use Rattle.tz_query.specs.Outputs.{IsSound, Leaves};
 
     /// Keeps the segment around an instant, if the clock has a type there.
-    #[inline(never)]
     pub fn keep_segment(&mut self, unix_time: i64)
         requires { IsSound self.old }
         ensures { Leaves self.old self.new }
@@ -395,9 +391,7 @@ impl<'a, A: Allocator + Copy> Answers<'a, A> {
     ghost use Rattle.tz_query.specs.Nanoseconds.{number_of};
     ghost use Rattle.tz_query.specs.Outputs.{IsAnswered, IsSound, Leaves};
 
-    /// The type of the clock at an instant outside the kept segment, if it has one. It is not
-    /// inlined, since a lookup is too long to stand where lines are answered.
-    #[inline(never)]
+    /// The type of the clock at an instant outside the kept segment, if it has one.
     fn type_at(&mut self, unix_time: i64) -> Option<&'a LocalTimeType>
         requires { IsSound self.old }
         ensures clock { IfSome result (λ t. IsClock (zone_of self.old.zone) unix_time t.now) }
@@ -428,7 +422,6 @@ impl<'a, A: Allocator + Copy> Answers<'a, A> {
     /// Looks an instant up once more, for the error, which [`Answers::type_at`] drops. It finds no
     /// type then: the arm for one is there since `type_at` promises nothing of `None`.
     #[cold]
-    #[inline(never)]
     fn answer_by_lookup(&mut self, unix_time: i64, nanoseconds: Nanoseconds) -> Written
         ensures { IfOk result
             (λ _. IsAnswered (Time unix_time (number_of nanoseconds)) self.old self.new) }
@@ -606,7 +599,6 @@ impl<'a, A: Allocator + Copy> Answers<'a, A> {
     }
 
     /// Answers fields with these nanoseconds by a search of their own.
-    #[inline(never)]
     fn answer_by_search(&mut self, fields: Fields, nanoseconds: Nanoseconds) -> Written
         ensures { IfOk result (λ _. IsAnswered (Search (with_nanoseconds fields nanoseconds))
             self.old
@@ -653,7 +645,6 @@ impl<'a, A: Allocator + Copy> Answers<'a, A> {
 
     /// Answers fields by the types that the clock has in their window. Values are passed as copies,
     /// so that the loop over lines keeps them in registers.
-    #[inline(never)]
     fn answer_by_types(
         &mut self,
         types: &WindowTypes<'a>,
@@ -690,9 +681,7 @@ impl<'a, A: Allocator + Copy> Answers<'a, A> {
         }
     }
 
-    /// Looks up the types that the clock has in a window, and returns the type if there is one. It
-    /// is not inlined, since this is too long to stand where lines are answered.
-    #[inline(never)]
+    /// Looks up the types that the clock has in a window, and returns the type if there is one.
     fn type_in_window(
         &mut self,
         types: &mut WindowTypes<'a>,

@@ -81,7 +81,6 @@ impl<A: Allocator> Output<A> {
     }
 
     /// Writes the line of an error.
-    #[inline(never)]
     pub fn push_error(&mut self, name: &str) -> Written
         requires { length name.now ≤ 24 }
         ensures { IfOk result (λ _. written self.new ≡ written self.old
@@ -91,7 +90,6 @@ impl<A: Allocator> Output<A> {
     }
 
     /// Writes a line with a letter and a count.
-    #[inline(never)]
     pub fn push_count(&mut self, letter: u8, count: usize) -> Written
         ensures { IfOk result (λ _. written self.new ≡ written self.old
             ++ ended ((letter ∷ space ∷ decimal count) ∷ [])) }

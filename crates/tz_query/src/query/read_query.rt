@@ -40,7 +40,6 @@ pub fn after_line(bytes: &[u8]) -> &[u8]
 
 /// The number at the beginning of the bytes, if there is one of 64 bits, and the bytes after it.
 /// Most have one digit or two.
-#[inline(always)]
 pub fn read_number(bytes: &[u8]) -> Option<(i64, &[u8])>
     ensures some { IfSome result (λ r. IsNumberFront bytes.now r.0 r.1.now) }
     ensures none { IfNone result ((n : ℤ) (rest : List ℕ) → FitsSigned w64 n
@@ -144,7 +143,6 @@ impl Nanoseconds {
     ghost use Rattle.tz_query.specs.Nanoseconds.{number_of};
 
     /// Makes the digits of a number of nanoseconds.
-    #[inline(never)]
     pub fn new(number: u32) -> Nanoseconds
         requires { number < 1000000000 }
         ensures { number_of result ≡ number }
@@ -165,7 +163,6 @@ impl Nanoseconds {
     }
 
     /// Computes the number that the digits have.
-    #[inline(never)]
     pub fn number(&self) -> u32
         ensures { result ≡ number_of self.now }
     {

@@ -45,7 +45,6 @@ struct Switch {
 
 /// The switch at this instant. `earlier` and `later` are it and its neighbour; `None` if both come
 /// at one instant.
-#[inline(always)]
 const fn switch_between(unix_time: i64, is_start: bool, earlier: i64, later: i64) -> Option<Switch>
     ensures { IfSome result (λ switch. (switch.unix_time ≡ unix_time) × (switch.is_start ≡ is_start)
         × (earlier <ℤ later)) }
@@ -164,7 +163,6 @@ impl AlternateData {
     }
 
     /// The change at a switch.
-    #[inline(always)]
     const fn change_at(&self, switch: Switch) -> RuleChange<'_>
         ensures time { result.unix_time ≡ switch.unix_time }
         ensures before { result.before.now ≡ type_by self.now (not switch.is_start) }
@@ -243,9 +241,7 @@ impl AlternateData {
         None
     }
 
-    /// The first change after an instant. Not inlined, so that walks over a zone's transitions stay
-    /// small.
-    #[inline(never)]
+    /// The first change after an instant.
     const fn change_after(&self, unix_time: i64) -> Option<RuleChange<'_>>
         ensures { MatchOption result (HasNoChangeAfter (Alternate self.now) unix_time)
             (λ c. IsChangeAfter (Alternate self.now) unix_time (type_change_of c)) }
@@ -256,8 +252,7 @@ impl AlternateData {
         }
     }
 
-    /// The last change up to an instant. Not inlined either.
-    #[inline(never)]
+    /// The last change up to an instant.
     const fn change_up_to(&self, unix_time: i64) -> Option<RuleChange<'_>>
         ensures { MatchOption result (HasNoChangeUpTo (Alternate self.now) unix_time)
             (λ c. IsChangeUpTo (Alternate self.now) unix_time (type_change_of c)) }
@@ -271,7 +266,6 @@ impl AlternateData {
 
 /// The first change of a rule after an instant.
 #[tactic(auto, using(crate::proofs::RuleWalks::none_of_fixed))]
-#[inline(always)]
 pub const fn change_after<'a>(rule: RuleRef<'a>, unix_time: i64) -> Option<RuleChange<'a>>
     ensures { MatchOption result (HasNoChangeAfter (rule_seen rule.entry) unix_time)
         (λ c. IsChangeAfter (rule_seen rule.entry) unix_time (type_change_of c)) }
@@ -284,7 +278,6 @@ pub const fn change_after<'a>(rule: RuleRef<'a>, unix_time: i64) -> Option<RuleC
 
 /// The last change of a rule up to an instant.
 #[tactic(auto, using(crate::proofs::RuleWalks::none_of_fixed))]
-#[inline(always)]
 pub const fn change_up_to<'a>(rule: RuleRef<'a>, unix_time: i64) -> Option<RuleChange<'a>>
     ensures { MatchOption result (HasNoChangeUpTo (rule_seen rule.entry) unix_time)
         (λ c. IsChangeUpTo (rule_seen rule.entry) unix_time (type_change_of c)) }

@@ -157,7 +157,6 @@ impl AlternateData {
     }
 
     /// The segment around an instant, if the likely year determines it.
-    #[inline(always)]
     const fn likely_segment(&self, unix_time: i64) -> Option<AlternateSegment>
         ensures of { IfSome result (λ segment. IsWholeSegment self.now segment) }
         ensures within { IfSome result (λ segment. (segment.from ≤ℤ unix_time)
@@ -211,7 +210,6 @@ impl AlternateData {
     }
 
     /// The type of daylight saving time, or that of standard time.
-    #[inline(always)]
     pub(super) const fn type_by(&self, is_daylight: bool) -> &LocalTimeType
         ensures { result.now ≡ type_by self.now is_daylight }
     {
@@ -219,7 +217,6 @@ impl AlternateData {
     }
 
     /// The segment around an instant, with its type, as a segment of the rule.
-    #[inline(always)]
     const fn rule_segment(&self, unix_time: i64, segment: AlternateSegment) -> RuleSegment<'_>
         requires of { IsWholeSegment self.now segment }
         requires within { (segment.from ≤ℤ unix_time) × (unix_time <ℤ segment.until) }

@@ -97,7 +97,6 @@ pub enum RuleRef<'a> {
 
 impl<'a> RuleRef<'a> {
     /// Lends a rule.
-    #[inline(always)]
     pub const fn of(rule: &'a TransitionRule) -> RuleRef<'a>
         ensures { rule_seen result ≡ rule.now }
     {
@@ -161,7 +160,6 @@ pub const fn segment_at<'a>(rule: RuleRef<'a>, unix_time: i64) -> RuleSegment<'a
 
 /// The type of the rule at an instant. An alternate rule has one in the UTC years that are two or
 /// more from both ends of `i32`.
-#[inline(always)]
 pub const fn find_local_time_type<'a>(
     rule: RuleRef<'a>,
     unix_time: i64,

@@ -20,7 +20,6 @@ use tz_base::order::{greater_i32, lesser_i32};
 pub(super) const KINDS: usize = 14;
 
 /// The kind of the years that are leap, or are not, and whose January 1st has the week day.
-#[inline(always)]
 const fn kind_of(leap: bool, first_week_day: u8) -> usize
     requires { first_week_day < 7 }
     ensures value { result ≡ kind_by leap first_week_day }
@@ -35,7 +34,6 @@ const SEVENTH: u64 = 2_635_249_153_387_078_803;
 
 /// The days modulo 7. If r is that remainder, `days * SEVENTH` modulo 2^64 is r sevenths of 2^64,
 /// or slightly more.
-#[inline(always)]
 const fn days_over_weeks(days: u64) -> u8
     requires { days < 2 ^ 43 }
     ensures value { result ≡ days % 7 }
@@ -76,7 +74,6 @@ const INNER_END: i32 = 30_672_000;
 
 /// The seconds from 00:00 UTC of January 1st to a time after 00:00 UTC of a day of the year, from
 /// 0.
-#[inline(always)]
 const fn seconds_to(year_day: u16, seconds: i32) -> i32
     requires year_day { year_day ≤ 365 }
     requires seconds { (negsuc 999999 ≤ℤ seconds) × (seconds ≤ℤ pos 999999) }
@@ -112,7 +109,6 @@ impl YearTable {
     }
 
     /// Seconds from New Year, 00:00 UTC, in years of this kind.
-    #[inline(always)]
     pub(super) const fn entry(&self, kind: usize) -> i64
         requires { kind < 14 }
         ensures value { result ≡ entry self.now.0 kind }
@@ -132,7 +128,6 @@ impl YearTable {
     }
 
     /// The instant of a year.
-    #[inline(always)]
     pub(super) const fn in_year(&self, year: i32) -> i64
         ensures { result ≡ instant_in self.now.0 year }
     {
@@ -203,7 +198,6 @@ pub(super) const fn rule_year(unix_time: i64) -> Option<i32>
 
 /// The year of an instant in UTC, or a neighbour of it if the New Year between them is less than
 /// two days away, moved by cycles of 400 years.
-#[inline(always)]
 pub(super) const fn likely_year(unix_time: i64) -> Option<u64>
     ensures year { IfSome result (λ moved_year. IsTriedYear (moved_back moved_year)) }
     ensures likely { IfSome result (λ moved_year. IsLikelyYear unix_time (moved_back moved_year)) }

@@ -28,7 +28,6 @@ const LEAST_GUESSED: usize = 9;
 const MOST_GUESSED: usize = 1024;
 
 /// The greatest power of two up to a number.
-#[inline(always)]
 const fn power_up_to(number: usize) -> usize
     requires { 0 < number }
     ensures power { (exponent : ℕ) × (result ≡ 2 ^ exponent) }
@@ -66,7 +65,6 @@ fn position_after_look<V: Transitions>(
 
 /// Of twice `count` positions from `position` on, the first of the `count` among which the leap
 /// time's position is, by a look at the transition in the middle.
-#[inline(always)]
 fn half<V: Transitions>(view: &mut V, position: usize, count: usize, unix_leap_time: i64) -> usize
     requires rising { IsRising (V.list view.old) }
     requires some { 0 < count }
@@ -181,7 +179,6 @@ fn first_by_time<V: Transitions>(view: &mut V, unix_leap_time: i64) -> usize
 }
 
 /// Whether a leap time lies at one of three positions, by the transitions on either side of them.
-#[inline(always)]
 fn is_among_three<V: Transitions>(view: &mut V, position: usize, unix_leap_time: i64) -> bool
     requires rising { IsRising (V.list view.old) }
     requires uncounted { (n : ℕ) → V.next n ≡ n }
@@ -198,7 +195,6 @@ fn is_among_three<V: Transitions>(view: &mut V, position: usize, unix_leap_time:
 }
 
 /// The position of a leap time among three.
-#[inline(always)]
 fn position_among_three<V: Transitions>(view: &mut V, position: usize, unix_leap_time: i64) -> usize
     requires rising { IsRising (V.list view.old) }
     requires uncounted { (n : ℕ) → V.next n ≡ n }

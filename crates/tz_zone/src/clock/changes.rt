@@ -32,7 +32,6 @@ use tz_rule::timezone::LocalTimeType;
 
 /// The first change of a rule after an instant: that of a zone with the rule and without
 /// transitions.
-#[inline(always)]
 fn following_by_rule<'a>(zone: &ZoneData<'a>, unix_time: i64) -> Option<Change<'a>>
     ensures { MatchOption result
         (HasNoFollowing (without_transitions (zone_of_data zone.now)) unix_time)
@@ -45,7 +44,6 @@ fn following_by_rule<'a>(zone: &ZoneData<'a>, unix_time: i64) -> Option<Change<'
 
 /// The position at which the effect of a transition lies. It is not right after the transition
 /// where the next one takes effect at the same instant.
-#[inline(always)]
 fn position_at_effect(zone: &ZoneData<'_>, index: usize, effect: i64) -> usize
     requires inside { index < length (zone_of_data zone.now).transitions }
     requires transition { (change : Transition)
@@ -70,7 +68,6 @@ fn position_at_effect(zone: &ZoneData<'_>, index: usize, effect: i64) -> usize
 /// The last position of the run of `position`: the transitions from `position` up to it are to one
 /// type, `local_time_type`. The position after all transitions is a run of its own: from there on
 /// the rule has the types.
-#[inline(always)]
 const fn end_of_run(zone: &ZoneData<'_>, position: usize, local_time_type: &LocalTimeType) -> usize
     requires position { position < length (zone_of_data zone.now).transitions }
     requires is_type { IsTypeOfLast (zone_of_data zone.now) position local_time_type.now }
@@ -101,7 +98,6 @@ fn first_position(zone: &ZoneData<'_>, unix_time: i64) -> Option<(i64, usize)>
 /// The change at the next transition after an instant that lies at a position, and the position
 /// after it, if there are no leap seconds, that transition is to another type, and it is not the
 /// last one. Mostly it is so, and then nothing is walked.
-#[inline(always)]
 fn change_at_next<'a>(
     zone: &ZoneData<'a>,
     unix_time: i64,
@@ -124,7 +120,6 @@ fn change_at_next<'a>(
 
 /// The first change of the clock after an instant that lies at a position, and the position after
 /// it.
-#[inline(never)]
 fn following_from<'a>(
     zone: &ZoneData<'a>,
     unix_time: i64,
@@ -157,7 +152,6 @@ fn following_from<'a>(
 /// The change at the transition after a position, and the position after it, if the one before the
 /// position takes effect at the instant. That one compare shows that the instant lies there, since
 /// times rise.
-#[inline(always)]
 pub fn change_after_last<'a>(
     zone: &ZoneData<'a>,
     unix_time: i64,
@@ -200,7 +194,6 @@ pub fn find_following<'a>(zone: &ZoneData<'a>, unix_time: i64) -> Option<(Change
 
 /// The last change of a rule up to an instant: that of a zone with the rule and without
 /// transitions.
-#[inline(always)]
 fn preceding_by_rule<'a>(zone: &ZoneData<'a>, last: i64) -> Option<Change<'a>>
     ensures { MatchOption result
         (HasNoPreceding (without_transitions (zone_of_data zone.now)) (last +ℤ pos 1))
@@ -214,7 +207,6 @@ fn preceding_by_rule<'a>(zone: &ZoneData<'a>, last: i64) -> Option<Change<'a>>
 
 /// The first position, from 1 on, of the run of `position`: the transitions from the one before it
 /// up to `position` are to one type, `local_time_type`.
-#[inline(always)]
 const fn start_of_run(
     zone: &ZoneData<'_>,
     position: usize,
@@ -249,7 +241,6 @@ fn last_position(zone: &ZoneData<'_>, unix_time: i64) -> Option<(i64, usize)>
 
 /// The last change of the clock up to an instant that lies at a position, if it comes after all
 /// transitions. From the effect of the last transition on, the seam, the rule has the types.
-#[inline(always)]
 fn preceding_after_table<'a>(zone: &ZoneData<'a>, position: usize, last: i64) -> Option<Change<'a>>
     requires at_least_one { 0 < length (zone_of_data zone.now).transitions }
     requires at { LiesAt (zone_of_data zone.now) last position }
@@ -274,7 +265,6 @@ fn preceding_after_table<'a>(zone: &ZoneData<'a>, position: usize, last: i64) ->
 
 /// The first position, from 1 on, of the run of a position. The position after all transitions is a
 /// run of its own: from there on the rule has the types.
-#[inline(always)]
 fn first_of_run(zone: &ZoneData<'_>, position: usize) -> usize
     requires { (0 < position) × (position ≤ length (zone_of_data zone.now).transitions) }
     ensures within { (0 < result) × (result ≤ position) }
@@ -293,7 +283,6 @@ fn first_of_run(zone: &ZoneData<'_>, position: usize) -> usize
 
 /// The first position of the run of a position, and the instant at which the transition before it
 /// takes effect.
-#[inline(always)]
 fn run_start(zone: &ZoneData<'_>, position: usize) -> (usize, i64)
     requires position { (0 < position) × (position ≤ length (zone_of_data zone.now).transitions) }
     requires at { (w : ℤ) × (w ≤ℤ pos 9223372036854775807)
@@ -309,7 +298,6 @@ fn run_start(zone: &ZoneData<'_>, position: usize) -> (usize, i64)
 /// The change at the last transition before an instant, and the position before it, if the instant
 /// a second earlier lies at a position, there are no leap seconds, that transition is from another
 /// type, and it is not the last one of all. Mostly it is so, and then nothing is walked.
-#[inline(always)]
 fn change_at_last<'a>(
     zone: &ZoneData<'a>,
     unix_time: i64,
@@ -336,7 +324,6 @@ fn change_at_last<'a>(
 
 /// The change at the transition before a position, and the position before it, if the one after the
 /// position takes effect at the instant. Then the instant a second earlier lies there.
-#[inline(always)]
 pub fn change_before_next<'a>(
     zone: &ZoneData<'a>,
     unix_time: i64,
@@ -357,7 +344,6 @@ pub fn change_before_next<'a>(
 
 /// The position at which the instant before the effect of a transition lies, if it has a leap time.
 /// It is not right before the transition where an earlier one takes effect at the same instant.
-#[inline(always)]
 fn position_before_effect(zone: &ZoneData<'_>, index: usize, effect: i64) -> Option<usize>
     requires inside { index < length (zone_of_data zone.now).transitions }
     requires not_least { negsuc 9223372036854775807 <ℤ effect }
@@ -379,7 +365,6 @@ fn position_before_effect(zone: &ZoneData<'_>, index: usize, effect: i64) -> Opt
 
 /// The last change of the clock before an instant, and the position before it. After `last`, which
 /// lies at `position`, there is none.
-#[inline(never)]
 fn preceding_from<'a>(
     zone: &ZoneData<'a>,
     unix_time: i64,

@@ -48,9 +48,7 @@ pub(super) fn after_table<'a>(zone: &ZoneData<'a>, is_empty: bool, unix_time: i6
     }
 }
 
-/// The type at an instant from the last transition on. Not inlined, so that walks over positions
-/// stay small.
-#[inline(never)]
+/// The type at an instant from the last transition on.
 pub(super) fn type_from_last<'a>(zone: &ZoneData<'a>, unix_time: i64) -> Option<&'a LocalTimeType>
     ensures { MatchOption result
         ((t : LocalTimeType) → ¬ IsTypeAfter (zone_of_data zone.now).extra_rule unix_time t)
@@ -61,7 +59,6 @@ pub(super) fn type_from_last<'a>(zone: &ZoneData<'a>, unix_time: i64) -> Option<
 
 /// The last transition before a position. If there is none, one at the least leap time, to the
 /// first type.
-#[inline(always)]
 pub(super) fn before<V: Transitions>(view: &mut V, position: usize) -> Transition
     requires { position ≤ length (V.list view.old) }
     ensures same { V.list view.new ≡ V.list view.old }
@@ -77,7 +74,6 @@ pub(super) fn before<V: Transitions>(view: &mut V, position: usize) -> Transitio
 }
 
 /// The type of a transition.
-#[inline(always)]
 pub(super) const fn type_of<'a>(zone: &ZoneData<'a>, change: Transition) -> &'a LocalTimeType
     requires { change.type_index < length (zone_of_data zone.now).types }
     ensures { IsTypeAt (zone_of_data zone.now) change.type_index result.now }
@@ -86,7 +82,6 @@ pub(super) const fn type_of<'a>(zone: &ZoneData<'a>, change: Transition) -> &'a 
 }
 
 /// The type of the last transition before a position, or the first type if there is none.
-#[inline(always)]
 pub(super) fn type_before<'a, V: Transitions>(
     view: &mut V,
     zone: &ZoneData<'a>,
@@ -106,7 +101,6 @@ pub(super) fn type_before<'a, V: Transitions>(
 
 /// The type at an instant, from a position at which it lies, or from an earlier position whose type
 /// is the same.
-#[inline(always)]
 pub(super) fn type_at<'a>(
     zone: &ZoneData<'a>,
     position: usize,
@@ -131,7 +125,6 @@ pub(super) fn type_at<'a>(
 
 /// Why there is no type from the last transition on, or in a zone without transitions: there is no
 /// rule, or it is not defined at the instant.
-#[inline(always)]
 fn fault_after(zone: &ZoneData<'_>) -> TzError
     ensures { MatchOption (zone_of_data zone.now).extra_rule
         (result ≡ TzError.NoAvailableLocalTimeType) (λ rule. result ≡ TzError.OutOfRange) }

@@ -74,7 +74,6 @@ impl<'a> Change<'a> {
 }
 
 /// The change at an instant, by the types at the instant before and at it.
-#[inline(always)]
 pub(super) fn change_at<'a>(
     unix_time: i64,
     before: Option<&'a LocalTimeType>,
@@ -168,7 +167,6 @@ fn first_past(leap_seconds: &[LeapSecond], unix_time: i64) -> i64
 }
 
 /// The segment of instants that have no leap time.
-#[inline(never)]
 fn undefined_segment<'a>(leap_seconds: &[LeapSecond], unix_time: i64) -> Segment<'a>
     requires leaps { AreLeapSeconds leap_seconds.now }
     requires refused { IsLeapTimeRefused leap_seconds.now unix_time }
@@ -195,7 +193,6 @@ fn undefined_segment<'a>(leap_seconds: &[LeapSecond], unix_time: i64) -> Segment
 }
 
 /// The segment around an instant at which the last transition is reached.
-#[inline(always)]
 fn segment_from_last<'a>(zone: &ZoneData<'a>, last: Transition, unix_time: i64) -> Segment<'a>
     requires { IsTimeReached (zone_of_data zone.now).leap_seconds last.unix_leap_time unix_time }
     ensures within { (result.from ≤ℤ unix_time) × (unix_time ≤ℤ result.last) }
@@ -221,7 +218,6 @@ fn segment_from_last<'a>(zone: &ZoneData<'a>, last: Transition, unix_time: i64) 
 }
 
 /// The segment around an instant that lies at a position.
-#[inline(always)]
 fn segment_at_position<'a, V: Transitions>(
     view: &mut V,
     zone: &ZoneData<'a>,
@@ -251,7 +247,6 @@ fn segment_at_position<'a, V: Transitions>(
 }
 
 /// The segment of the clock around an instant.
-#[inline(always)]
 pub fn clock_segment_at<'a, V: Transitions>(
     view: &mut V,
     zone: &ZoneData<'a>,

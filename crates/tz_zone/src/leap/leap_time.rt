@@ -44,7 +44,6 @@ pub(crate) fn has_begun(leap_seconds: &[LeapSecond], unix_time: i64) -> bool
 
 /// The first instant from another one on that does not lie before a truncated start, if there is
 /// one.
-#[inline(always)]
 pub(crate) fn first_begun(leap_seconds: &[LeapSecond], unix_time: i64) -> Option<i64>
     ensures { MatchOption result ((u : ℤ) → unix_time ≤ℤ u → u ≤ℤ pos 9223372036854775807
         → IsBeforeStart leap_seconds.now u)
@@ -165,7 +164,6 @@ fn last_with(leap_seconds: &[LeapSecond], index: usize, high: i64) -> i64
 }
 
 /// The last instant up to `high` at which no leap second takes the leap time out of 64 bits.
-#[inline(never)]
 fn last_with_all(leap_seconds: &[LeapSecond], high: i64) -> i64
     requires { AreLeapSeconds leap_seconds.now }
     ensures up_to { result ≤ℤ high }
@@ -181,7 +179,6 @@ fn last_with_all(leap_seconds: &[LeapSecond], high: i64) -> i64
 
 /// The last instant up to `high` at which no leap second takes the leap time out of 64 bits. Mostly
 /// it is `high` itself, and no leap second is read.
-#[inline(always)]
 pub(crate) fn last_instant_up_to(leap_seconds: &[LeapSecond], high: i64) -> i64
     requires { AreLeapSeconds leap_seconds.now }
     ensures up_to { result ≤ℤ high }
@@ -224,7 +221,6 @@ pub(crate) fn existing_leap_time(leap_seconds: &[LeapSecond], unix_time: i64) ->
 }
 
 /// The leap time of an instant, if it has one, by the leap seconds that are reached.
-#[inline(never)]
 fn leap_time_by_seconds(leap_seconds: &[LeapSecond], unix_time: i64) -> Option<i64>
     requires { AreLeapSeconds leap_seconds.now }
     ensures { MatchOption result (IsLeapTimeRefused leap_seconds.now unix_time)
@@ -270,7 +266,6 @@ pub fn leap(leap_seconds: &[LeapSecond], unix_time: i64) -> Result<i64, TzError>
 /// there is at most one in about four weeks. So three times the seconds of a window are a generous
 /// bound, and one that ends long before the given leap time needs no second search of the leap
 /// seconds.
-#[inline(always)]
 pub(crate) fn stay_before(
     leap_seconds: &[LeapSecond],
     low: i64,
@@ -330,7 +325,6 @@ pub(crate) fn wide_effect(leap_seconds: &[LeapSecond], unix_leap_time: i64) -> i
 
 /// The effect of a leap time that is reached at some instant: then the effect is an instant, and
 /// fits 64 bits.
-#[inline(always)]
 pub(crate) fn effect_of_reached(leap_seconds: &[LeapSecond], unix_leap_time: i64) -> i64
     requires leaps { AreLeapSeconds leap_seconds.now }
     requires reached { (u : ℤ) × (u ≤ℤ pos 9223372036854775807)
@@ -364,7 +358,6 @@ pub fn effect(leap_seconds: &[LeapSecond], unix_leap_time: i64) -> Result<i64, T
 }
 
 /// The instant at which a leap time takes effect, if it is reached at any, by the leap seconds.
-#[inline(never)]
 fn effect_by_seconds(leap_seconds: &[LeapSecond], unix_leap_time: i64) -> Option<i64>
     requires { AreLeapSeconds leap_seconds.now }
     ensures { MatchOption result ((u : ℤ) → u ≤ℤ pos 9223372036854775807
@@ -383,7 +376,6 @@ fn effect_by_seconds(leap_seconds: &[LeapSecond], unix_leap_time: i64) -> Option
 
 /// The instant at which a leap time takes effect, if it is reached at any. Mostly there are no leap
 /// seconds, and it is the leap time itself.
-#[inline(always)]
 pub(crate) fn effect_if_reached(leap_seconds: &[LeapSecond], unix_leap_time: i64) -> Option<i64>
     requires { AreLeapSeconds leap_seconds.now }
     ensures { MatchOption result ((u : ℤ) → u ≤ℤ pos 9223372036854775807
@@ -399,7 +391,6 @@ pub(crate) fn effect_if_reached(leap_seconds: &[LeapSecond], unix_leap_time: i64
 
 /// The last instant that has a leap time and at which `unix_leap_time` is not yet reached, by the
 /// leap seconds.
-#[inline(never)]
 fn last_before_by_seconds(leap_seconds: &[LeapSecond], unix_leap_time: i64) -> i64
     requires leaps { AreLeapSeconds leap_seconds.now }
     requires before { (u : ℤ) × (negsuc 9223372036854775807 ≤ℤ u)
@@ -414,7 +405,6 @@ fn last_before_by_seconds(leap_seconds: &[LeapSecond], unix_leap_time: i64) -> i
 
 /// The last instant that has a leap time and at which `unix_leap_time` is not yet reached. Mostly
 /// there are no leap seconds, and it is the instant right before `unix_leap_time`.
-#[inline(always)]
 pub(crate) fn last_before(leap_seconds: &[LeapSecond], unix_leap_time: i64) -> i64
     requires leaps { AreLeapSeconds leap_seconds.now }
     requires before { (u : ℤ) × (negsuc 9223372036854775807 ≤ℤ u)

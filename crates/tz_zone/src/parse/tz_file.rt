@@ -427,7 +427,6 @@ pub fn file_sizes(bytes: &[u8]) -> Result<FileSizes, TzFileError>
 
 /// The transition of a record. The size of its time is an argument, so that a caller with a
 /// constant has a loop of its own without a test.
-#[inline(always)]
 #[tactic(auto, unfolding(crate::specs::TzFile::change_at))]
 fn transition_at(size: TimeSize, unit: &Unit<'_>, index: u32) -> Transition
     requires size { size ≡ unit.now.size }
@@ -442,7 +441,6 @@ fn transition_at(size: TimeSize, unit: &Unit<'_>, index: u32) -> Transition
 }
 
 /// The transitions, in their order, with times of a size that the caller knows.
-#[inline(always)]
 #[tactic(auto, using(crate::proofs::TzTables::tables))]
 fn read_transitions_of<A: Allocator + Copy>(
     alloc: A,

@@ -139,7 +139,6 @@ fn read_time_number(text: &[u8]) -> Result<(u32, &[u8]), TzStringError>
 }
 
 /// The number of a day of the year, and the rest of the bytes.
-#[inline(always)]
 fn read_year_day(text: &[u8]) -> Result<(u16, &[u8]), TzStringError>
     ensures { MatchResult result (λ p. IsNumber text.now p.0 p.1.now) (IsNumberFault 16 text.now) }
 {
@@ -150,7 +149,6 @@ fn read_year_day(text: &[u8]) -> Result<(u16, &[u8]), TzStringError>
 }
 
 /// The number of a month, a week or a week day, and the rest of the bytes.
-#[inline(always)]
 fn read_short_number(text: &[u8]) -> Result<(u8, &[u8]), TzStringError>
     ensures { MatchResult result (λ p. IsNumber text.now p.0 p.1.now) (IsNumberFault 8 text.now) }
 {
@@ -180,7 +178,6 @@ fn split_at_bracket(text: &[u8]) -> (&[u8], &[u8])
 }
 
 /// The name at the beginning, and the rest of the bytes.
-#[inline(always)]
 fn read_name(text: &[u8]) -> Result<(&[u8], &[u8]), TzStringError>
     ensures { MatchResult result (λ p. IsName text.now p.0.now p.1.now)
         (λ e. (e ≡ ParseData UnexpectedEof) × IsUnclosed text.now) }
@@ -350,7 +347,6 @@ fn read_daylight_offset(text: &[u8]) -> Result<(Option<WrittenTime>, &[u8]), TzS
 }
 
 /// The number after a `J`, and the rest of the bytes.
-#[inline(always)]
 fn read_julian_day(text: &[u8]) -> Result<(Julian1WithoutLeap, &[u8]), TzError>
     ensures { MatchResult result (λ p. IsNumber text.now p.0 p.1.now × IsJulianDay p.0)
         (IsDayNumberFault 16 IsJulianDay InvalidRuleDayJulianDay text.now) }
@@ -360,7 +356,6 @@ fn read_julian_day(text: &[u8]) -> Result<(Julian1WithoutLeap, &[u8]), TzError>
 }
 
 /// A number of days from January 1st on, and the rest of the bytes.
-#[inline(always)]
 fn read_zero_based_day(text: &[u8]) -> Result<(Julian0WithLeap, &[u8]), TzError>
     ensures { MatchResult result (λ p. IsNumber text.now p.0 p.1.now × IsZeroBasedDay p.0)
         (IsDayNumberFault 16 IsZeroBasedDay InvalidRuleDayJulianDay text.now) }
@@ -371,7 +366,6 @@ fn read_zero_based_day(text: &[u8]) -> Result<(Julian0WithLeap, &[u8]), TzError>
 
 /// The month, the week and the week day after an `M`, each of one digit or two, as strings usually
 /// have them, and the rest of the bytes.
-#[inline(always)]
 fn read_usual_month_week_day(text: &[u8]) -> Option<(u8, u8, u8, &[u8])>
     ensures { IfSome result (λ p. IsMonthWeekText text.now (month_week p.0 p.1 p.2) p.3.now) }
 {
@@ -384,7 +378,6 @@ fn read_usual_month_week_day(text: &[u8]) -> Option<(u8, u8, u8, &[u8])>
 }
 
 /// The month, the week and the week day after an `M`, of any length, and the rest of the bytes.
-#[inline(never)]
 fn read_long_month_week_day(text: &[u8]) -> Result<(MonthWeekDay, &[u8]), TzError>
     ensures { MatchResult result (λ p. IsMonthWeekText text.now p.0 p.1.now × IsMonthWeek p.0)
         (IsMonthWeekDayFault text.now) }
@@ -587,7 +580,6 @@ fn read_daylight(text: &[u8]) -> Result<(&[u8], Option<WrittenTime>, &[u8]), TzS
 }
 
 /// The local time type with this name.
-#[inline(always)]
 fn named_type(
     name: &[u8],
     ut_offset: i32,
@@ -602,7 +594,6 @@ fn named_type(
 }
 
 /// What the string denotes.
-#[inline(never)]
 fn read_text(text: &[u8], extended: bool) -> Result<TransitionRule, TzError>
     ensures { MatchResult result (IsTzText extended text.now) (IsTzTextFault extended text.now) }
 {

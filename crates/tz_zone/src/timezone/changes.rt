@@ -97,9 +97,7 @@ impl<'a> TimeZoneRef<'a> {
         self.search_following(unix_time)
     }
 
-    /// The first change after an instant, and the position after it. Not inlined, so that a step
-    /// from one transition to the next stays small.
-    #[inline(never)]
+    /// The first change after an instant, and the position after it.
     fn search_following(&self, unix_time: i64) -> Option<(Change<'a>, usize)>
         ensures { MatchOption result (HasNoFollowing (zone_of self.now) unix_time)
             (λ found. IsFollowing (zone_of self.now) unix_time (change_of found.0)) }
@@ -146,9 +144,7 @@ impl<'a> TimeZoneRef<'a> {
         self.search_preceding(unix_time)
     }
 
-    /// The last change before an instant, and the position before it. Not inlined, for the same
-    /// reason.
-    #[inline(never)]
+    /// The last change before an instant, and the position before it.
     fn search_preceding(&self, unix_time: i64) -> Option<(Change<'a>, usize)>
         ensures { MatchOption result (HasNoPreceding (zone_of self.now) unix_time)
             (λ found. IsPreceding (zone_of self.now) unix_time (change_of found.0)) }

@@ -342,7 +342,6 @@ fn is_absolute(name: &str) -> bool
 
 /// Writes the path of a name in a directory into the room of usual paths, and returns it, or `None`
 /// where the room is too short.
-#[inline(always)]
 fn usual_path<'p>(
     room: &'p mut ArrayString<USUAL_LEN>,
     directory: &str,
@@ -392,7 +391,6 @@ impl<F: Fn(&str) -> Result<Vec<u8>, ReadFault>> TimeZoneSettings<'_, F> {
     }
 
     /// The file at the path, or `None` if it cannot be read. The reader's fault is dropped at once.
-    #[inline(always)]
     fn read_if_there(&self, path: &str) -> Result<Option<Vec<u8>>, AllocError>
         requires { IsCallableAt F.Fn (reader_of self.now) (λ asked. asked ≡ path.now) }
         ensures { IfOk result (λ found. MatchOption found
@@ -407,7 +405,6 @@ impl<F: Fn(&str) -> Result<Vec<u8>, ReadFault>> TimeZoneSettings<'_, F> {
     }
 
     /// The file with the name in the directory, or `None` if it cannot be read.
-    #[inline(always)]
     fn find_in_directory<A: Allocator + Copy>(
         &self,
         alloc: A,

@@ -136,7 +136,6 @@ pub(crate) fn check_parts(
 }
 
 /// The range of offsets from `least` to `greatest`, widened just enough to have another one.
-#[inline(always)]
 fn with_offset(least: i32, greatest: i32, offset: i32) -> (i32, i32)
     ensures least { result.0 ≤ℤ least }
     ensures greatest { greatest ≤ℤ result.1 }

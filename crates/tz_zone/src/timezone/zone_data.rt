@@ -45,7 +45,6 @@ pub struct ZoneData<'a> {
 }
 
 /// Lends a rule, if there is one.
-#[inline(always)]
 pub(super) const fn lent(extra_rule: &Option<TransitionRule>) -> Option<RuleRef<'_>>
     ensures { lent_rule result ≡ extra_rule.now }
 {
@@ -72,7 +71,6 @@ fn rule_of<'a>(fixed: &'a [LocalTimeType], alternate: &'a [AlternateData]) -> Op
 
 impl<'a> RuleSource<'a> {
     /// Lends the rule, if there is one.
-    #[inline(always)]
     fn lent(self) -> Option<RuleRef<'a>>
         ensures { lent_rule result ≡ rule_of_source self.entry }
     {
@@ -124,7 +122,6 @@ impl<'a> ZoneData<'a> {
     }
 
     /// The zone with parts that are known to make one, and with its least and its greatest offset.
-    #[inline(always)]
     pub const fn from_valid_parts(
         transitions: &'a [Transition],
         local_time_types: &'a [LocalTimeType],
@@ -154,7 +151,6 @@ impl<'a> ZoneData<'a> {
     }
 
     /// The transitions, in order.
-    #[inline(always)]
     pub const fn transitions(&self) -> &'a [Transition]
         ensures { result.now ≡ (zone_of_data self.now).transitions }
     {
@@ -162,7 +158,6 @@ impl<'a> ZoneData<'a> {
     }
 
     /// The local time types, which the transitions name by their numbers.
-    #[inline(always)]
     pub const fn local_time_types(&self) -> &'a [LocalTimeType]
         ensures { result.now ≡ (zone_of_data self.now).types }
     {
@@ -170,7 +165,6 @@ impl<'a> ZoneData<'a> {
     }
 
     /// The leap seconds, in order.
-    #[inline(always)]
     pub const fn leap_seconds(&self) -> &'a [LeapSecond]
         ensures { result.now ≡ (zone_of_data self.now).leap_seconds }
     {
@@ -178,7 +172,6 @@ impl<'a> ZoneData<'a> {
     }
 
     /// The rule from the last transition on, lent.
-    #[inline(always)]
     pub fn rule(&self) -> Option<RuleRef<'a>>
         ensures { lent_rule result ≡ (zone_of_data self.now).extra_rule }
     {
@@ -186,7 +179,6 @@ impl<'a> ZoneData<'a> {
     }
 
     /// The least and the greatest offset of the types and of the rule.
-    #[inline(always)]
     pub const fn offsets(&self) -> (i32, i32)
         ensures { AreEndOffsets (zone_of_data self.now) result.0 result.1 }
     {

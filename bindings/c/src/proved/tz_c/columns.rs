@@ -59,7 +59,6 @@ struct Day {
 }
 
 /// The day of a reading.
-#[inline(never)]
 fn day_of(reading: i64) -> Day {
     let date = Fields::from_reading(reading, 0);
     let second_of_day =

@@ -15,7 +15,6 @@ use tz::proved::tz_zone::timezone::{LeapSecond, TimeZone, Transition, is_zone_na
 use tz::shim::alloc::Global;
 
 /// Copies a text to a buffer and stores its length, if there is room.
-#[inline(always)]
 pub(crate) fn write_text(given: &[u8], text: &mut [u8], len: &mut usize) -> u32 {
     if given.len() > text.len() {
         return BUFFER_LENGTH;

@@ -136,7 +136,6 @@ pub fn tz_alternate_conflict(
 }
 
 /// The rule of two lists that have one entry together, or none.
-#[inline(always)]
 pub(crate) fn rule_of_lists<'a>(
     fixed: &'a [LocalTimeType],
     alternate: &'a [AlternateData],

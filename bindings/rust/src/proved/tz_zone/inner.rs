@@ -15,7 +15,6 @@ pub use crate::proved::tz_zone::timezone::files::{open_fault, read_to_end};
 pub use crate::proved::tz_zone::timezone::zone_data::{RuleSource, ZoneData};
 
 /// The zone's plain data.
-#[inline(always)]
 pub const fn plain<'a>(zone: &TimeZoneRef<'a>) -> ZoneData<'a> {
     zone.plain
 }

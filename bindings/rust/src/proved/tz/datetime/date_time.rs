@@ -94,7 +94,6 @@ impl DateTime {
     }
 
     /// The date time with valid fields, which the type shows at a Unix time.
-    #[inline(always)]
     pub(super) const fn of_fields(
         fields: &Fields,
         local_time_type: LocalTimeType,
@@ -288,7 +287,6 @@ impl DateTime {
     }
 
     /// The fields, which are valid and shown.
-    #[inline(always)]
     pub(crate) const fn fields(&self) -> &Fields {
         &self.fields
     }
@@ -322,7 +320,6 @@ impl fmt::Display for DateTime {
 }
 
 /// The fields of a date time, which are valid.
-#[inline(always)]
 pub fn fields_of(date_time: &DateTime) -> &Fields {
     date_time.fields()
 }

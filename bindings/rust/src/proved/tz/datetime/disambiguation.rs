@@ -45,7 +45,6 @@ pub struct Ends<'a> {
 }
 
 /// A jump, if the local times before and after it are in the years of an `i32`.
-#[inline(always)]
 fn jump_inside<'a>(
     unix_time: i64,
     before: &'a LocalTimeType,
@@ -61,7 +60,6 @@ fn jump_inside<'a>(
 }
 
 /// One entry alone.
-#[inline(always)]
 fn alone<'a>(entry: Entry<'a>) -> FewEntries<'a> {
     match entry {
         Entry::Shown(unix_time, local_time_type) => FewEntries::Once(unix_time, local_time_type),
@@ -70,7 +68,6 @@ fn alone<'a>(entry: Entry<'a>) -> FewEntries<'a> {
 }
 
 /// Two entries.
-#[inline(always)]
 fn both<'a>(first: Entry<'a>, last: Entry<'a>) -> FewEntries<'a> {
     match first {
         Entry::Shown(unix_time, before) => match last {
@@ -83,7 +80,6 @@ fn both<'a>(first: Entry<'a>, last: Entry<'a>) -> FewEntries<'a> {
 
 impl<'a> Ends<'a> {
     /// No entries.
-    #[inline(always)]
     fn none() -> Self {
         Ends {
             count: 0,
@@ -94,7 +90,6 @@ impl<'a> Ends<'a> {
     }
 
     /// Counts one more, which is the last.
-    #[inline(always)]
     fn push(&mut self, entry: Entry<'a>) {
         // A reading has at most 2^33 entries, so the count never comes to its end.
         self.count = self.count.saturating_add(1);
@@ -103,7 +98,6 @@ impl<'a> Ends<'a> {
     }
 
     /// The entry that is meant, if there is one.
-    #[inline(always)]
     fn meant(&self, disambiguation: Disambiguation) -> Option<Entry<'a>> {
         match disambiguation {
             Disambiguation::Compatible => self.shown.or(self.last),
@@ -117,7 +111,6 @@ impl<'a> Ends<'a> {
 
 impl<'a> Ends<'a> {
     /// The entries, if they are few.
-    #[inline(always)]
     pub fn few(&self) -> FewEntries<'a> {
         let Some(first) = self.first else {
             return FewEntries::Nothing;
@@ -136,7 +129,6 @@ impl<'a> Ends<'a> {
 }
 
 impl<'a> EntryTaker<'a> for Ends<'a> {
-    #[inline(always)]
     fn shown(&mut self, unix_time: i64, local_time_type: &'a LocalTimeType) -> Result<(), TzError> {
         let entry = Entry::Shown(unix_time, local_time_type);
         self.shown = self.shown.or(Some(entry));
@@ -144,7 +136,6 @@ impl<'a> EntryTaker<'a> for Ends<'a> {
         Ok(())
     }
 
-    #[inline(always)]
     fn skipped(
         &mut self,
         unix_time: i64,
@@ -157,10 +148,9 @@ impl<'a> EntryTaker<'a> for Ends<'a> {
     }
 }
 
-/// The ends of all that a reading has in its window. It is not inlined, and the zone is passed by
+/// The ends of all that a reading has in its window. It stands apart, and the zone is passed by
 /// value, so that the zone and the ends stay in registers where this is not called.
 #[cold]
-#[inline(never)]
 fn ends_by_walk<'a>(
     reading: i64,
     zone: ZoneData<'a>,
@@ -179,7 +169,6 @@ fn ends_by_walk<'a>(
 /// # Errors
 ///
 /// [`TzError::OutOfRange`] if a side of a jump is outside the years of an `i32`.
-#[inline(always)]
 pub fn ends_by_types<'a>(
     reading: i64,
     zone: &ZoneData<'a>,
@@ -196,10 +185,9 @@ pub fn ends_by_types<'a>(
     Ok(ends)
 }
 
-/// The entry that is meant of all that a reading has in its window. It is not inlined, as a window
+/// The entry that is meant of all that a reading has in its window. It stands apart, as a window
 /// seldom needs a walk.
 #[cold]
-#[inline(never)]
 fn meant_by_walk<'a>(
     reading: i64,
     disambiguation: Disambiguation,
@@ -215,7 +203,6 @@ fn meant_by_walk<'a>(
 /// The entry that is meant of all that a reading has in its window if the clock has one type before
 /// an instant, and another from there on. It decides as `give_around` does, but makes no ends, so
 /// that it is small enough to be inlined.
-#[inline(always)]
 fn meant_around<'a>(
     reading: i64,
     disambiguation: Disambiguation,
@@ -402,7 +389,6 @@ pub enum Disambiguation {
 }
 
 /// The instant at which the clock is looked up for a jump over the fields.
-#[inline(always)]
 fn lookup_instant(
     fields: &Fields,
     disambiguation: Disambiguation,
@@ -416,10 +402,9 @@ fn lookup_instant(
     fields.reading() - i64::from(local_time_type.ut_offset())
 }
 
-/// What the zone's clock shows at a Unix time. It is not inlined, so that the search, which seldom
-/// needs it, is.
+/// What the zone's clock shows at a Unix time. It stands apart from the search, which seldom needs
+/// it.
 #[cold]
-#[inline(never)]
 fn shown_apart(unix_time: i64, nanoseconds: u32, zone: &ZoneData<'_>) -> Result<DateTime, TzError> {
     from_timespec(unix_time, nanoseconds, zone)
 }

@@ -67,7 +67,6 @@ pub(crate) trait Slot {
 }
 
 impl Slot for Option<FoundDateTimeKind> {
-    #[inline(always)]
     fn set(&mut self, found: &FoundDateTimeKind) {
         *self = Some(*found);
     }
@@ -82,7 +81,6 @@ pub(crate) struct SlotWriter<'a, S> {
 
 impl<'a, S: Slot> SlotWriter<'a, S> {
     /// Nothing is found yet. The first entries, this many, get no slot.
-    #[inline(always)]
     pub(super) const fn new(slots: &'a mut [S], skip: usize) -> Self {
         SlotWriter {
             slots,

@@ -30,7 +30,6 @@ pub fn find_fields<A: Allocator + Copy>(
 
 /// Adds what [`DateTime::find`] finds of the fields to a list, through a view of the zone's
 /// transitions.
-#[inline(always)]
 pub(super) fn find_in<L: DateTimeList>(
     list: &mut L,
     fields: &Fields,
@@ -131,7 +130,6 @@ impl DateTime {
 
     /// What [`DateTime::find_n`] returns for the fields, through a view of the zone's transitions,
     /// or the buffer and the error.
-    #[inline(always)]
     fn listed_in<'a>(
         buf: &'a mut [Option<FoundDateTimeKind>],
         fields: &Fields,

@@ -27,7 +27,6 @@ pub enum FoundDateTimeKind {
 
 impl FoundDateTimeKind {
     /// The date time twice, or the sides before and after the jump.
-    #[inline(always)]
     pub(crate) const fn sides(&self) -> (&DateTime, &DateTime) {
         match self {
             FoundDateTimeKind::Normal(date_time) => (date_time, date_time),

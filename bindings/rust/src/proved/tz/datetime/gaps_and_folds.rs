@@ -12,14 +12,12 @@ use crate::proved::tz_zone::inner::{
 use crate::proved::tz_zone::timezone::LocalTimeType;
 
 /// The instant at which a type shows a reading.
-#[inline(always)]
 pub(super) fn shown_at(reading: i64, local_time_type: &LocalTimeType) -> i64 {
     reading - i64::from(local_time_type.ut_offset())
 }
 
 /// Whether clocks that change at an instant from one type to another are set forward over a
 /// reading.
-#[inline(always)]
 pub(super) fn passes_over(
     reading: i64,
     unix_time: i64,
@@ -85,7 +83,6 @@ fn give_around<'a, E: EntryTaker<'a>>(
 /// Gives all that a reading has in its window, in order, by the spans of the clock from the
 /// position on at which the window begins.
 #[cold]
-#[inline(never)]
 fn walk<'a, E: EntryTaker<'a>>(
     entries: &mut E,
     reading: i64,
@@ -167,7 +164,6 @@ fn window(reading: i64, least: i32, greatest: i32) -> (i64, i64) {
 
 /// The first and the last instant of a reading's window, by the least and the greatest offset of a
 /// zone.
-#[inline(always)]
 pub fn window_of(zone: &ZoneData<'_>, reading: i64) -> (i64, i64) {
     let (least, greatest) = zone.offsets();
     window(reading, least, greatest)

@@ -117,7 +117,6 @@ impl UtcDateTime {
     }
 
     /// The date time with these fields, which have one.
-    #[inline(always)]
     pub(crate) const fn of_fields(fields: Fields) -> Self {
         UtcDateTime {
             fields,

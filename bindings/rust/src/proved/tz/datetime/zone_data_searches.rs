@@ -28,9 +28,8 @@ pub const fn from_timespec(
     DateTime::shown_by(unix_time, nanoseconds, *local_time_type)
 }
 
-/// Searches without writing anything. Not inlined, so that the search that writes stays small.
+/// Searches without writing anything. It stands apart, so that the search that writes stays small.
 #[cold]
-#[inline(never)]
 fn check_by_search(fields: &Fields, zone: &ZoneData<'_>) -> Result<(), TzError> {
     meant_in(fields.reading(), Disambiguation::Compatible, zone)?;
     Ok(())
@@ -38,7 +37,6 @@ fn check_by_search(fields: &Fields, zone: &ZoneData<'_>) -> Result<(), TzError> 
 
 /// Searches for fields near the ends of the years, so that a search that is refused is refused
 /// before anything is written.
-#[inline(always)]
 fn check_entries(fields: &Fields, zone: &ZoneData<'_>) -> Result<(), TzError> {
     // For the proof, which bounds the entries by these offsets.
     let (_least, _greatest) = zone.offsets();

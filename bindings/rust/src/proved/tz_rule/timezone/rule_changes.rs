@@ -33,7 +33,6 @@ struct Switch {
 
 /// The switch at this instant. `earlier` and `later` are it and its neighbour; `None` if both come
 /// at one instant.
-#[inline(always)]
 const fn switch_between(
     unix_time: i64,
     is_start: bool,
@@ -130,7 +129,6 @@ impl AlternateData {
     }
 
     /// The change at a switch.
-    #[inline(always)]
     const fn change_at(&self, switch: Switch) -> RuleChange<'_> {
         RuleChange {
             unix_time: switch.unix_time,
@@ -193,9 +191,7 @@ impl AlternateData {
         None
     }
 
-    /// The first change after an instant. Not inlined, so that walks over a zone's transitions stay
-    /// small.
-    #[inline(never)]
+    /// The first change after an instant.
     const fn change_after(&self, unix_time: i64) -> Option<RuleChange<'_>> {
         match self.switches_around(unix_time) {
             Some((_, Some(switch))) => Some(self.change_at(switch)),
@@ -203,8 +199,7 @@ impl AlternateData {
         }
     }
 
-    /// The last change up to an instant. Not inlined either.
-    #[inline(never)]
+    /// The last change up to an instant.
     const fn change_up_to(&self, unix_time: i64) -> Option<RuleChange<'_>> {
         match self.switches_around(unix_time) {
             Some((Some(switch), _)) => Some(self.change_at(switch)),
@@ -214,7 +209,6 @@ impl AlternateData {
 }
 
 /// The first change of a rule after an instant.
-#[inline(always)]
 pub const fn change_after<'a>(rule: RuleRef<'a>, unix_time: i64) -> Option<RuleChange<'a>> {
     match rule {
         RuleRef::Fixed(_) => None,
@@ -223,7 +217,6 @@ pub const fn change_after<'a>(rule: RuleRef<'a>, unix_time: i64) -> Option<RuleC
 }
 
 /// The last change of a rule up to an instant.
-#[inline(always)]
 pub const fn change_up_to<'a>(rule: RuleRef<'a>, unix_time: i64) -> Option<RuleChange<'a>> {
     match rule {
         RuleRef::Fixed(_) => None,

@@ -13,7 +13,6 @@ use crate::proved::tz_base::order::{greater_i32, lesser_i32};
 pub(super) const KINDS: usize = 14;
 
 /// The kind of the years that are leap, or are not, and whose January 1st has the week day.
-#[inline(always)]
 const fn kind_of(leap: bool, first_week_day: u8) -> usize {
     let week_day = first_week_day as usize;
     if leap { 7 + week_day } else { week_day }
@@ -24,7 +23,6 @@ const SEVENTH: u64 = 2_635_249_153_387_078_803;
 
 /// The days modulo 7. If r is that remainder, `days * SEVENTH` modulo 2^64 is r sevenths of 2^64,
 /// or slightly more.
-#[inline(always)]
 const fn days_over_weeks(days: u64) -> u8 {
     let fraction = days.wrapping_mul(SEVENTH);
     (fraction as u128 * 7 / 18_446_744_073_709_551_616) as u8
@@ -55,7 +53,6 @@ const INNER_END: i32 = 30_672_000;
 
 /// The seconds from 00:00 UTC of January 1st to a time after 00:00 UTC of a day of the year, from
 /// 0.
-#[inline(always)]
 const fn seconds_to(year_day: u16, seconds: i32) -> i32 {
     86_400 * year_day as i32 + seconds
 }
@@ -81,7 +78,6 @@ impl YearTable {
     }
 
     /// Seconds from New Year, 00:00 UTC, in years of this kind.
-    #[inline(always)]
     pub(super) const fn entry(&self, kind: usize) -> i64 {
         self.0[kind] as i64
     }
@@ -94,7 +90,6 @@ impl YearTable {
     }
 
     /// The instant of a year.
-    #[inline(always)]
     pub(super) const fn in_year(&self, year: i32) -> i64 {
         self.in_moved_year(calendar::moved_year(year))
     }
@@ -151,7 +146,6 @@ pub(super) const fn rule_year(unix_time: i64) -> Option<i32> {
 
 /// The year of an instant in UTC, or a neighbour of it if the New Year between them is less than
 /// two days away, moved by cycles of 400 years.
-#[inline(always)]
 pub(super) const fn likely_year(unix_time: i64) -> Option<u64> {
     if unix_time < -GREATEST_DISTANCE || unix_time > GREATEST_DISTANCE {
         return None;

@@ -19,7 +19,6 @@ const LEAST_GUESSED: usize = 9;
 const MOST_GUESSED: usize = 1024;
 
 /// The greatest power of two up to a number.
-#[inline(always)]
 const fn power_up_to(number: usize) -> usize {
     1 << number.ilog2()
 }
@@ -42,7 +41,6 @@ const fn position_after_look(
 
 /// Of twice `count` positions from `position` on, the first of the `count` among which the leap
 /// time's position is, by a look at the transition in the middle.
-#[inline(always)]
 const fn half(
     view: &mut Uncounted<'_>,
     position: usize,
@@ -127,7 +125,6 @@ const fn first_by_time(view: &mut Uncounted<'_>, unix_leap_time: i64) -> usize {
 }
 
 /// Whether a leap time lies at one of three positions, by the transitions on either side of them.
-#[inline(always)]
 const fn is_among_three(view: &mut Uncounted<'_>, position: usize, unix_leap_time: i64) -> bool {
     // By this read the proof knows that the sum fits.
     let _len = view.len();
@@ -136,7 +133,6 @@ const fn is_among_three(view: &mut Uncounted<'_>, position: usize, unix_leap_tim
 }
 
 /// The position of a leap time among three.
-#[inline(always)]
 const fn position_among_three(
     view: &mut Uncounted<'_>,
     position: usize,

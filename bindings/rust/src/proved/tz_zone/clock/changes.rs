@@ -20,7 +20,6 @@ use crate::proved::tz_zone::timezone::zone_data::ZoneData;
 
 /// The first change of a rule after an instant: that of a zone with the rule and without
 /// transitions.
-#[inline(always)]
 const fn following_by_rule<'a>(zone: &ZoneData<'a>, unix_time: i64) -> Option<Change<'a>> {
     let rule = match zone.rule() {
         Some(value) => value,
@@ -35,7 +34,6 @@ const fn following_by_rule<'a>(zone: &ZoneData<'a>, unix_time: i64) -> Option<Ch
 
 /// The position at which the effect of a transition lies. It is not right after the transition
 /// where the next one takes effect at the same instant.
-#[inline(always)]
 const fn position_at_effect(zone: &ZoneData<'_>, index: usize, effect: i64) -> usize {
     let transitions = zone.transitions;
     let mut position = index + 1;
@@ -52,7 +50,6 @@ const fn position_at_effect(zone: &ZoneData<'_>, index: usize, effect: i64) -> u
 /// The last position of the run of `position`: the transitions from `position` up to it are to one
 /// type, `local_time_type`. The position after all transitions is a run of its own: from there on
 /// the rule has the types.
-#[inline(always)]
 const fn end_of_run(
     zone: &ZoneData<'_>,
     position: usize,
@@ -83,7 +80,6 @@ const fn first_position(zone: &ZoneData<'_>, unix_time: i64) -> Option<(i64, usi
 /// The change at the next transition after an instant that lies at a position, and the position
 /// after it, if there are no leap seconds, that transition is to another type, and it is not the
 /// last one. Mostly it is so, and then nothing is walked.
-#[inline(always)]
 const fn change_at_next<'a>(
     zone: &ZoneData<'a>,
     unix_time: i64,
@@ -105,7 +101,6 @@ const fn change_at_next<'a>(
 
 /// The first change of the clock after an instant that lies at a position, and the position after
 /// it.
-#[inline(never)]
 const fn following_from<'a>(
     zone: &ZoneData<'a>,
     unix_time: i64,
@@ -139,7 +134,6 @@ const fn following_from<'a>(
 /// The change at the transition after a position, and the position after it, if the one before the
 /// position takes effect at the instant. That one compare shows that the instant lies there, since
 /// times rise.
-#[inline(always)]
 pub const fn change_after_last<'a>(
     zone: &ZoneData<'a>,
     unix_time: i64,
@@ -188,7 +182,6 @@ pub const fn find_following<'a>(
 
 /// The last change of a rule up to an instant: that of a zone with the rule and without
 /// transitions.
-#[inline(always)]
 const fn preceding_by_rule<'a>(zone: &ZoneData<'a>, last: i64) -> Option<Change<'a>> {
     let rule = match zone.rule() {
         Some(value) => value,
@@ -203,7 +196,6 @@ const fn preceding_by_rule<'a>(zone: &ZoneData<'a>, last: i64) -> Option<Change<
 
 /// The first position, from 1 on, of the run of `position`: the transitions from the one before it
 /// up to `position` are to one type, `local_time_type`.
-#[inline(always)]
 const fn start_of_run(
     zone: &ZoneData<'_>,
     position: usize,
@@ -230,7 +222,6 @@ const fn last_position(zone: &ZoneData<'_>, unix_time: i64) -> Option<(i64, usiz
 
 /// The last change of the clock up to an instant that lies at a position, if it comes after all
 /// transitions. From the effect of the last transition on, the seam, the rule has the types.
-#[inline(always)]
 const fn preceding_after_table<'a>(
     zone: &ZoneData<'a>,
     position: usize,
@@ -256,7 +247,6 @@ const fn preceding_after_table<'a>(
 
 /// The first position, from 1 on, of the run of a position. The position after all transitions is a
 /// run of its own: from there on the rule has the types.
-#[inline(always)]
 const fn first_of_run(zone: &ZoneData<'_>, position: usize) -> usize {
     let transitions = zone.transitions;
     if position == transitions.len() {
@@ -268,7 +258,6 @@ const fn first_of_run(zone: &ZoneData<'_>, position: usize) -> usize {
 
 /// The first position of the run of a position, and the instant at which the transition before it
 /// takes effect.
-#[inline(always)]
 const fn run_start(zone: &ZoneData<'_>, position: usize) -> (usize, i64) {
     let transitions = zone.transitions;
     let start = first_of_run(zone, position);
@@ -279,7 +268,6 @@ const fn run_start(zone: &ZoneData<'_>, position: usize) -> (usize, i64) {
 /// The change at the last transition before an instant, and the position before it, if the instant
 /// a second earlier lies at a position, there are no leap seconds, that transition is from another
 /// type, and it is not the last one of all. Mostly it is so, and then nothing is walked.
-#[inline(always)]
 const fn change_at_last<'a>(
     zone: &ZoneData<'a>,
     unix_time: i64,
@@ -305,7 +293,6 @@ const fn change_at_last<'a>(
 
 /// The change at the transition before a position, and the position before it, if the one after the
 /// position takes effect at the instant. Then the instant a second earlier lies there.
-#[inline(always)]
 pub const fn change_before_next<'a>(
     zone: &ZoneData<'a>,
     unix_time: i64,
@@ -323,7 +310,6 @@ pub const fn change_before_next<'a>(
 
 /// The position at which the instant before the effect of a transition lies, if it has a leap time.
 /// It is not right before the transition where an earlier one takes effect at the same instant.
-#[inline(always)]
 const fn position_before_effect(zone: &ZoneData<'_>, index: usize, effect: i64) -> Option<usize> {
     let transitions = zone.transitions;
     let unix_leap_time = match leap_time(zone.leap_seconds, effect - 1) {
@@ -339,7 +325,6 @@ const fn position_before_effect(zone: &ZoneData<'_>, index: usize, effect: i64) 
 
 /// The last change of the clock before an instant, and the position before it. After `last`, which
 /// lies at `position`, there is none.
-#[inline(never)]
 const fn preceding_from<'a>(
     zone: &ZoneData<'a>,
     unix_time: i64,

@@ -36,9 +36,7 @@ pub(super) const fn after_table<'a>(
     }
 }
 
-/// The type at an instant from the last transition on. Not inlined, so that walks over positions
-/// stay small.
-#[inline(never)]
+/// The type at an instant from the last transition on.
 pub(super) const fn type_from_last<'a>(
     zone: &ZoneData<'a>,
     unix_time: i64,
@@ -48,7 +46,6 @@ pub(super) const fn type_from_last<'a>(
 
 /// The last transition before a position. If there is none, one at the least leap time, to the
 /// first type.
-#[inline(always)]
 pub(super) const fn before(view: &mut Uncounted<'_>, position: usize) -> Transition {
     if position == 0 {
         return Transition::new(i64::MIN, 0);
@@ -57,13 +54,11 @@ pub(super) const fn before(view: &mut Uncounted<'_>, position: usize) -> Transit
 }
 
 /// The type of a transition.
-#[inline(always)]
 pub(super) const fn type_of<'a>(zone: &ZoneData<'a>, change: Transition) -> &'a LocalTimeType {
     &zone.local_time_types[change.local_time_type_index()]
 }
 
 /// The type of the last transition before a position, or the first type if there is none.
-#[inline(always)]
 pub(super) const fn type_before<'a>(
     view: &mut Uncounted<'_>,
     zone: &ZoneData<'a>,
@@ -75,7 +70,6 @@ pub(super) const fn type_before<'a>(
 
 /// The type at an instant, from a position at which it lies, or from an earlier position whose type
 /// is the same.
-#[inline(always)]
 pub(super) const fn type_at<'a>(
     zone: &ZoneData<'a>,
     position: usize,
@@ -94,7 +88,6 @@ pub(super) const fn type_at<'a>(
 
 /// Why there is no type from the last transition on, or in a zone without transitions: there is no
 /// rule, or it is not defined at the instant.
-#[inline(always)]
 const fn fault_after(zone: &ZoneData<'_>) -> TzError {
     match zone.rule() {
         Some(_) => TzError::OutOfRange,

@@ -50,7 +50,6 @@ impl<'a> Change<'a> {
 }
 
 /// The change at an instant, by the types at the instant before and at it.
-#[inline(always)]
 pub(super) const fn change_at<'a>(
     unix_time: i64,
     before: Option<&'a LocalTimeType>,
@@ -117,7 +116,6 @@ const fn first_past(leap_seconds: &[LeapSecond], unix_time: i64) -> i64 {
 }
 
 /// The segment of instants that have no leap time.
-#[inline(never)]
 const fn undefined_segment<'a>(leap_seconds: &[LeapSecond], unix_time: i64) -> Segment<'a> {
     if has_begun(leap_seconds, unix_time) {
         return Segment {
@@ -134,7 +132,6 @@ const fn undefined_segment<'a>(leap_seconds: &[LeapSecond], unix_time: i64) -> S
 }
 
 /// The segment around an instant at which the last transition is reached.
-#[inline(always)]
 const fn segment_from_last<'a>(
     zone: &ZoneData<'a>,
     last: Transition,
@@ -150,7 +147,6 @@ const fn segment_from_last<'a>(
 }
 
 /// The segment around an instant that lies at a position.
-#[inline(always)]
 const fn segment_at_position<'a>(
     view: &mut Uncounted<'_>,
     zone: &ZoneData<'a>,
@@ -170,7 +166,6 @@ const fn segment_at_position<'a>(
 }
 
 /// The segment of the clock around an instant.
-#[inline(always)]
 pub const fn clock_segment_at<'a>(
     view: &mut Uncounted<'_>,
     zone: &ZoneData<'a>,

@@ -36,7 +36,6 @@ pub struct Span<'a> {
 /// The first instant from `unix_time` on that has a leap time, and the stage of a walk that begins
 /// there. `position` is that of `unix_time`, or `None` if there are transitions and it has no leap
 /// time. In a zone without transitions the first instant is `unix_time` itself.
-#[inline(always)]
 pub fn first_stage<'a>(
     view: &mut Uncounted<'_>,
     zone: &ZoneData<'a>,
@@ -67,7 +66,6 @@ pub fn first_stage<'a>(
 
 /// The span of a clock from where a walk has come to, up to `high` at most. `high` is not above
 /// `ALWAYS_DEFINED_UP_TO`, so every instant from `since` to it has a leap time.
-#[inline(always)]
 pub fn span_from<'a>(
     view: &mut Uncounted<'_>,
     zone: &ZoneData<'a>,
@@ -115,9 +113,7 @@ pub enum WindowTypes<'a> {
 }
 
 /// The type that the clock has throughout, from one instant up to another, both from the last
-/// transition on or in a zone without transitions; `None` if it has none or several. Not inlined,
-/// so that the callers of a window with one type stay small.
-#[inline(never)]
+/// transition on or in a zone without transitions; `None` if it has none or several.
 fn type_through<'a>(
     zone: ZoneData<'a>,
     is_empty: bool,

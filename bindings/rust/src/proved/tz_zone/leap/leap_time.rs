@@ -30,7 +30,6 @@ pub(crate) const fn has_begun(leap_seconds: &[LeapSecond], unix_time: i64) -> bo
 
 /// The first instant from another one on that does not lie before a truncated start, if there is
 /// one.
-#[inline(always)]
 pub(crate) const fn first_begun(leap_seconds: &[LeapSecond], unix_time: i64) -> Option<i64> {
     if has_begun(leap_seconds, unix_time) {
         return Some(unix_time);
@@ -105,7 +104,6 @@ const fn last_with(leap_seconds: &[LeapSecond], index: usize, high: i64) -> i64 
 }
 
 /// The last instant up to `high` at which no leap second takes the leap time out of 64 bits.
-#[inline(never)]
 const fn last_with_all(leap_seconds: &[LeapSecond], high: i64) -> i64 {
     let mut last = high;
     let mut index = 0;
@@ -118,7 +116,6 @@ const fn last_with_all(leap_seconds: &[LeapSecond], high: i64) -> i64 {
 
 /// The last instant up to `high` at which no leap second takes the leap time out of 64 bits. Mostly
 /// it is `high` itself, and no leap second is read.
-#[inline(always)]
 pub(crate) const fn last_instant_up_to(leap_seconds: &[LeapSecond], high: i64) -> i64 {
     if high <= ALWAYS_DEFINED_UP_TO {
         return high;
@@ -143,7 +140,6 @@ pub(crate) const fn existing_leap_time(leap_seconds: &[LeapSecond], unix_time: i
 }
 
 /// The leap time of an instant, if it has one, by the leap seconds that are reached.
-#[inline(never)]
 const fn leap_time_by_seconds(leap_seconds: &[LeapSecond], unix_time: i64) -> Option<i64> {
     if !has_leap_time(leap_seconds, unix_time) {
         return None;
@@ -176,7 +172,6 @@ pub const fn leap(leap_seconds: &[LeapSecond], unix_time: i64) -> Result<i64, Tz
 /// there is at most one in about four weeks. So three times the seconds of a window are a generous
 /// bound, and one that ends long before the given leap time needs no second search of the leap
 /// seconds.
-#[inline(always)]
 pub(crate) const fn stay_before(
     leap_seconds: &[LeapSecond],
     low: i64,
@@ -223,7 +218,6 @@ pub(crate) const fn wide_effect(leap_seconds: &[LeapSecond], unix_leap_time: i64
 
 /// The effect of a leap time that is reached at some instant: then the effect is an instant, and
 /// fits 64 bits.
-#[inline(always)]
 pub(crate) const fn effect_of_reached(leap_seconds: &[LeapSecond], unix_leap_time: i64) -> i64 {
     if leap_seconds.is_empty() {
         return unix_leap_time;
@@ -247,7 +241,6 @@ pub const fn effect(leap_seconds: &[LeapSecond], unix_leap_time: i64) -> Result<
 }
 
 /// The instant at which a leap time takes effect, if it is reached at any, by the leap seconds.
-#[inline(never)]
 const fn effect_by_seconds(leap_seconds: &[LeapSecond], unix_leap_time: i64) -> Option<i64> {
     let Ok(effect) = crate::shim::narrow(wide_effect(leap_seconds, unix_leap_time)) else {
         return None;
@@ -260,7 +253,6 @@ const fn effect_by_seconds(leap_seconds: &[LeapSecond], unix_leap_time: i64) -> 
 
 /// The instant at which a leap time takes effect, if it is reached at any. Mostly there are no leap
 /// seconds, and it is the leap time itself.
-#[inline(always)]
 pub(crate) const fn effect_if_reached(
     leap_seconds: &[LeapSecond],
     unix_leap_time: i64,
@@ -273,7 +265,6 @@ pub(crate) const fn effect_if_reached(
 
 /// The last instant that has a leap time and at which `unix_leap_time` is not yet reached, by the
 /// leap seconds.
-#[inline(never)]
 const fn last_before_by_seconds(leap_seconds: &[LeapSecond], unix_leap_time: i64) -> i64 {
     let before = wide_effect(leap_seconds, unix_leap_time) - 1;
     let last = crate::shim::least!(before, i64::MAX as i128) as i64;
@@ -282,7 +273,6 @@ const fn last_before_by_seconds(leap_seconds: &[LeapSecond], unix_leap_time: i64
 
 /// The last instant that has a leap time and at which `unix_leap_time` is not yet reached. Mostly
 /// there are no leap seconds, and it is the instant right before `unix_leap_time`.
-#[inline(always)]
 pub(crate) const fn last_before(leap_seconds: &[LeapSecond], unix_leap_time: i64) -> i64 {
     if leap_seconds.is_empty() {
         return unix_leap_time - 1;

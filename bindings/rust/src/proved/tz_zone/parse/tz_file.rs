@@ -325,7 +325,6 @@ pub fn file_sizes(bytes: &[u8]) -> Result<FileSizes, TzFileError> {
 
 /// The transition of a record. The size of its time is an argument, so that a caller with a
 /// constant has a loop of its own without a test.
-#[inline(always)]
 fn transition_at(size: TimeSize, unit: &Unit<'_>, index: u32) -> Transition {
     let at = size.times_len(index) as usize;
     let unix_leap_time = time_at(size, unit.block.times, at);
@@ -334,7 +333,6 @@ fn transition_at(size: TimeSize, unit: &Unit<'_>, index: u32) -> Transition {
 }
 
 /// The transitions, in their order, with times of a size that the caller knows.
-#[inline(always)]
 fn read_transitions_of<A: Allocator + Copy>(
     alloc: A,
     size: TimeSize,

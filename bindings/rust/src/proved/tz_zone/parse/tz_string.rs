@@ -89,7 +89,6 @@ fn read_time_number(text: &[u8]) -> Result<(u32, &[u8]), TzStringError> {
 }
 
 /// The number of a day of the year, and the rest of the bytes.
-#[inline(always)]
 fn read_year_day(text: &[u8]) -> Result<(u16, &[u8]), TzStringError> {
     match read_two_digits(text) {
         Some((number, rest)) => Ok((u16::from(number), rest)),
@@ -98,7 +97,6 @@ fn read_year_day(text: &[u8]) -> Result<(u16, &[u8]), TzStringError> {
 }
 
 /// The number of a month, a week or a week day, and the rest of the bytes.
-#[inline(always)]
 fn read_short_number(text: &[u8]) -> Result<(u8, &[u8]), TzStringError> {
     match read_two_digits(text) {
         Some((number, rest)) => Ok((number, rest)),
@@ -122,7 +120,6 @@ fn split_at_bracket(text: &[u8]) -> (&[u8], &[u8]) {
 }
 
 /// The name at the beginning, and the rest of the bytes.
-#[inline(always)]
 fn read_name(text: &[u8]) -> Result<(&[u8], &[u8]), TzStringError> {
     let Some(quoted) = after_byte(text, b'<') else {
         return Ok(split_letters(text));
@@ -253,14 +250,12 @@ fn read_daylight_offset(text: &[u8]) -> Result<(Option<WrittenTime>, &[u8]), TzS
 }
 
 /// The number after a `J`, and the rest of the bytes.
-#[inline(always)]
 fn read_julian_day(text: &[u8]) -> Result<(Julian1WithoutLeap, &[u8]), TzError> {
     let (number, rest) = read_year_day(text)?;
     Ok((Julian1WithoutLeap::new(number)?, rest))
 }
 
 /// A number of days from January 1st on, and the rest of the bytes.
-#[inline(always)]
 fn read_zero_based_day(text: &[u8]) -> Result<(Julian0WithLeap, &[u8]), TzError> {
     let (number, rest) = read_year_day(text)?;
     Ok((Julian0WithLeap::new(number)?, rest))
@@ -268,7 +263,6 @@ fn read_zero_based_day(text: &[u8]) -> Result<(Julian0WithLeap, &[u8]), TzError>
 
 /// The month, the week and the week day after an `M`, each of one digit or two, as strings usually
 /// have them, and the rest of the bytes.
-#[inline(always)]
 fn read_usual_month_week_day(text: &[u8]) -> Option<(u8, u8, u8, &[u8])> {
     let (month, rest) = read_two_digits(text)?;
     let rest = after_byte(rest, b'.')?;
@@ -279,7 +273,6 @@ fn read_usual_month_week_day(text: &[u8]) -> Option<(u8, u8, u8, &[u8])> {
 }
 
 /// The month, the week and the week day after an `M`, of any length, and the rest of the bytes.
-#[inline(never)]
 fn read_long_month_week_day(text: &[u8]) -> Result<(MonthWeekDay, &[u8]), TzError> {
     let (month, rest) = read_short_number(text)?;
     let rest = expect_byte(rest, b'.')?;
@@ -440,7 +433,6 @@ fn read_daylight(text: &[u8]) -> Result<(&[u8], Option<WrittenTime>, &[u8]), TzS
 }
 
 /// The local time type with this name.
-#[inline(always)]
 fn named_type(
     name: &[u8],
     ut_offset: i32,
@@ -450,7 +442,6 @@ fn named_type(
 }
 
 /// What the string denotes.
-#[inline(never)]
 fn read_text(text: &[u8], extended: bool) -> Result<TransitionRule, TzError> {
     let (std_name, rest) = read_name(text)?;
     let (std_offset, rest) = read_offset(rest)?;

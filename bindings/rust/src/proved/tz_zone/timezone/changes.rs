@@ -84,9 +84,7 @@ impl<'a> TimeZoneRef<'a> {
         self.search_following(unix_time)
     }
 
-    /// The first change after an instant, and the position after it. Not inlined, so that a step
-    /// from one transition to the next stays small.
-    #[inline(never)]
+    /// The first change after an instant, and the position after it.
     const fn search_following(&self, unix_time: i64) -> Option<(Change<'a>, usize)> {
         clock::find_following(&self.plain, unix_time)
     }
@@ -126,9 +124,7 @@ impl<'a> TimeZoneRef<'a> {
         self.search_preceding(unix_time)
     }
 
-    /// The last change before an instant, and the position before it. Not inlined, for the same
-    /// reason.
-    #[inline(never)]
+    /// The last change before an instant, and the position before it.
     const fn search_preceding(&self, unix_time: i64) -> Option<(Change<'a>, usize)> {
         clock::find_preceding(&self.plain, unix_time)
     }

@@ -96,7 +96,6 @@ pub(crate) const fn check_parts(
 }
 
 /// The range of offsets from `least` to `greatest`, widened just enough to have another one.
-#[inline(always)]
 const fn with_offset(least: i32, greatest: i32, offset: i32) -> (i32, i32) {
     (
         crate::shim::least!(least, offset),

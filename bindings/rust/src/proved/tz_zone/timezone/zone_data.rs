@@ -30,7 +30,6 @@ pub struct ZoneData<'a> {
 }
 
 /// Lends a rule, if there is one.
-#[inline(always)]
 pub(super) const fn lent(extra_rule: &Option<TransitionRule>) -> Option<RuleRef<'_>> {
     match extra_rule {
         Some(rule) => Some(RuleRef::of(rule)),
@@ -56,7 +55,6 @@ const fn rule_of<'a>(
 
 impl<'a> RuleSource<'a> {
     /// Lends the rule, if there is one.
-    #[inline(always)]
     const fn lent(self) -> Option<RuleRef<'a>> {
         match self {
             RuleSource::Whole(extra_rule) => lent(extra_rule),
@@ -90,7 +88,6 @@ impl<'a> ZoneData<'a> {
     }
 
     /// The zone with parts that are known to make one, and with its least and its greatest offset.
-    #[inline(always)]
     pub const fn from_valid_parts(
         transitions: &'a [Transition],
         local_time_types: &'a [LocalTimeType],
@@ -110,31 +107,26 @@ impl<'a> ZoneData<'a> {
     }
 
     /// The transitions, in order.
-    #[inline(always)]
     pub const fn transitions(&self) -> &'a [Transition] {
         self.transitions
     }
 
     /// The local time types, which the transitions name by their numbers.
-    #[inline(always)]
     pub const fn local_time_types(&self) -> &'a [LocalTimeType] {
         self.local_time_types
     }
 
     /// The leap seconds, in order.
-    #[inline(always)]
     pub const fn leap_seconds(&self) -> &'a [LeapSecond] {
         self.leap_seconds
     }
 
     /// The rule from the last transition on, lent.
-    #[inline(always)]
     pub const fn rule(&self) -> Option<RuleRef<'a>> {
         self.rule.lent()
     }
 
     /// The least and the greatest offset of the types and of the rule.
-    #[inline(always)]
     pub const fn offsets(&self) -> (i32, i32) {
         (self.least_offset, self.greatest_offset)
     }

@@ -74,7 +74,6 @@ fn index_of(local_time_type: &LocalTimeType) -> usize {
 
 impl Suffix {
     /// The suffix of a type.
-    #[inline(never)]
     pub fn new(local_time_type: LocalTimeType) -> Suffix {
         let mut line = TextBuffer::new();
         line.push_offset(local_time_type.ut_offset());
@@ -129,7 +128,6 @@ impl<'a, A: Allocator + Copy> Answers<'a, A> {
     /// Answers the first line, whatever its numbers, and returns the position after that line.
     ///
     /// The position is a number, so that the call returns it in a register.
-    #[inline(never)]
     fn answer_any_line(&mut self, queries: &[u8]) -> Result<usize, AllocError> {
         let Some((query, rest)) = read_query(queries) else {
             self.output.push_error("Line")?;
@@ -144,7 +142,6 @@ impl<'a, A: Allocator + Copy> Answers<'a, A> {
     }
 
     /// Answers the first line, and returns the bytes after that line.
-    #[inline(always)]
     fn answer_line<'q>(&mut self, queries: &'q [u8]) -> Result<&'q [u8], AllocError> {
         let mut nine = [0; 9];
         if let Some((unix_time, rest)) = read_usual_time_line(queries, &mut nine) {
@@ -256,7 +253,6 @@ impl KeptSegment {
 
 impl<'a, A: Allocator + Copy> Answers<'a, A> {
     /// Keeps the segment around an instant, if the clock has a type there.
-    #[inline(never)]
     pub fn keep_segment(&mut self, unix_time: i64) {
         let segment = self.zone.segment_at(unix_time);
         if let Some(local_time_type) = segment.local_time_type() {
@@ -301,9 +297,7 @@ impl<A: Allocator> Output<A> {
 }
 
 impl<'a, A: Allocator + Copy> Answers<'a, A> {
-    /// The type of the clock at an instant outside the kept segment, if it has one. It is not
-    /// inlined, since a lookup is too long to stand where lines are answered.
-    #[inline(never)]
+    /// The type of the clock at an instant outside the kept segment, if it has one.
     fn type_at(&mut self, unix_time: i64) -> Option<&'a LocalTimeType> {
         self.follow(unix_time);
         self.zone.find_local_time_type(unix_time).ok()
@@ -326,7 +320,6 @@ impl<'a, A: Allocator + Copy> Answers<'a, A> {
     /// Looks an instant up once more, for the error, which [`Answers::type_at`] drops. It finds no
     /// type then: the arm for one is there since `type_at` promises nothing of `None`.
     #[cold]
-    #[inline(never)]
     fn answer_by_lookup(&mut self, unix_time: i64, nanoseconds: Nanoseconds) -> Written {
         match self.zone.find_local_time_type(unix_time) {
             Ok(local_time_type) => {
@@ -450,7 +443,6 @@ impl<'a, A: Allocator + Copy> Answers<'a, A> {
     }
 
     /// Answers fields with these nanoseconds by a search of their own.
-    #[inline(never)]
     fn answer_by_search(&mut self, fields: Fields, nanoseconds: Nanoseconds) -> Written {
         let mut whole = fields;
         whole.nanoseconds = nanoseconds.number();
@@ -486,7 +478,6 @@ impl<'a, A: Allocator + Copy> Answers<'a, A> {
 
     /// Answers fields by the types that the clock has in their window. Values are passed as copies,
     /// so that the loop over lines keeps them in registers.
-    #[inline(never)]
     fn answer_by_types(
         &mut self,
         types: &WindowTypes<'a>,
@@ -515,9 +506,7 @@ impl<'a, A: Allocator + Copy> Answers<'a, A> {
         }
     }
 
-    /// Looks up the types that the clock has in a window, and returns the type if there is one. It
-    /// is not inlined, since this is too long to stand where lines are answered.
-    #[inline(never)]
+    /// Looks up the types that the clock has in a window, and returns the type if there is one.
     fn type_in_window(
         &mut self,
         types: &mut WindowTypes<'a>,

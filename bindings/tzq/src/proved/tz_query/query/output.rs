@@ -49,13 +49,11 @@ impl<A: Allocator> Output<A> {
     }
 
     /// Writes the line of an error.
-    #[inline(never)]
     pub fn push_error(&mut self, name: &str) -> Written {
         self.push_line(b"E ", name.as_bytes())
     }
 
     /// Writes a line with a letter and a count.
-    #[inline(never)]
     pub fn push_count(&mut self, letter: u8, count: usize) -> Written {
         let mut text = TextBuffer::new();
         text.push_count(count as u64);

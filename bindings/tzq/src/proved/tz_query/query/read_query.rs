@@ -25,7 +25,6 @@ pub fn after_line(bytes: &[u8]) -> &[u8] {
 
 /// The number at the beginning of the bytes, if there is one of 64 bits, and the bytes after it.
 /// Most have one digit or two.
-#[inline(always)]
 pub fn read_number(bytes: &[u8]) -> Option<(i64, &[u8])> {
     // `read_small` may read three bytes, and returns only a number before a space, so never the
     // last one of a line.
@@ -104,7 +103,6 @@ pub struct Nanoseconds {
 
 impl Nanoseconds {
     /// Makes the digits of a number of nanoseconds.
-    #[inline(never)]
     pub fn new(number: u32) -> Nanoseconds {
         let mut text = TextBuffer::new();
         text.push_nine_digits(number);
@@ -119,7 +117,6 @@ impl Nanoseconds {
     }
 
     /// Computes the number that the digits have.
-    #[inline(never)]
     pub fn number(&self) -> u32 {
         let (_, number) = dec2flt::read_digits(&self.digits, 0, 0);
         number as u32
