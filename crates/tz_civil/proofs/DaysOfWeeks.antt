@@ -1,0 +1,91 @@
+-- Week days of days that follow one another.
+use Rattle.std.proofs.Common.{◌≡◌, ℕ, ◌+◌, ◌-◌, ◌*◌, ◌/◌, ◌%◌, ◌<◌, ◌≤◌, refl, sym, arith, ℤ, pos, negsuc, ◌+ℤ◌, ◌-ℤ◌, ◌≤ℤ◌, ◌<ℤ◌, ap, ◌∙◌, lit<}
+use Rattle.std.proofs.lemmas.Int.{ints, int_rem_euclid_is}
+use Rattle.tz_base.specs.Days.{day_number, week_day_of}
+use Rattle.tz_base.proofs.DaysOfYears.{day_number-is}
+
+-- weeks that make a day's number one of a natural number
+weeks_before : (day : ℤ) → (k : ℕ) × (m : ℕ) × (day +ℤ pos (k * 7) ≡ pos m)
+weeks_before (pos n) = (0, n, omega (arith, ints))
+weeks_before (negsuc n) = (n + 1, 6 * n + 6, omega (arith, ints))
+
+same_pos : (m n : ℕ) → pos m ≡ pos n → m ≡ n
+same_pos m n e = cc
+
+-- the week day of a day by that of another
+pub week_day_from : (base day : ℤ) (w i j : ℕ) → week_day_of base ≡ pos w → day +ℤ pos j ≡ base +ℤ pos i
+    → week_day_of day ≡ pos ((w + i + 6 * j) % 7)
+unfolding week_day_of
+week_day_from base day w i j e apart =
+    let moved = weeks_before (base +ℤ pos 4 -ℤ pos j) in
+    let here = int_rem_euclid_is (base +ℤ pos 4) (pos 7) 7 moved.0 (moved.1 + j) (lit< tt) refl
+    (omega (arith, ints, moved.2)) in
+    let there = int_rem_euclid_is (day +ℤ pos 4) (pos 7) 7 moved.0 (moved.1 + i) (lit< tt) refl
+    (omega (arith, ints, moved.2, apart)) in
+    let same : w ≡ (moved.1 + j) % 7 = same_pos w ((moved.1 + j) % 7) (sym e ∙ here) in
+    there ∙ ap pos (omega (arith, same))
+
+-- the days of a month from its first one on
+pub week_day_in_month : (year : ℤ) (month d w : ℕ) → 1 ≤ d → week_day_of (day_number year month 1) ≡ pos w
+    → week_day_of (day_number year month d) ≡ pos ((w + (d - 1)) % 7)
+week_day_in_month year month d w h e =
+    let apart : day_number year month d +ℤ pos 0 ≡ day_number year month 1 +ℤ pos (d - 1) =
+    rw (day_number-is year month d, day_number-is year month 1) (omega (arith, ints)) in
+    week_day_from (day_number year month 1) (day_number year month d) w (d - 1) 0 e apart ∙ ap pos (omega arith)
+
+-- two week days by their numbers
+pub same_week_day : (day : ℤ) (m n : ℕ) → week_day_of day ≡ pos m → week_day_of day ≡ pos n → m ≡ n
+same_week_day day m n e f = same_pos m n (sym e ∙ f)
+
+-- how far the second number is above the first
+pub up_to : (a b : ℤ) → a ≤ℤ b → (n : ℕ) × (b ≡ a +ℤ pos n)
+up_to a b h = above (b -ℤ a) a (omega (arith, ints)) (omega (arith, ints, h))
+  where
+    above : (d a : ℤ) → b ≡ a +ℤ d → pos 0 ≤ℤ d → (n : ℕ) × (b ≡ a +ℤ pos n)
+    above (pos n) a e h = (n, e)
+    above (negsuc n) a e h = (0, omega (arith, ints, h))
+
+-- a week day is below 7
+pub week_day-lt : (day : ℤ) (w : ℕ) → week_day_of day ≡ pos w → w < 7
+week_day-lt day w e =
+    let here = week_day_from day day w 0 0 e (omega (arith, ints)) in
+    let same = same_week_day day w _ e here in
+    omega (arith, same)
+
+-- the next day with a week day: how much later it is, and that none is between
+pub next_day : (day : ℤ) (w week_day : ℕ) → week_day_of day ≡ pos w → week_day < 7
+    → (week_day_of (day +ℤ pos ((week_day + 6 - w) % 7 + 1)) ≡ pos week_day)
+    × ((later : ℤ) → day <ℤ later → week_day_of later ≡ pos week_day
+    → (day +ℤ pos ((week_day + 6 - w) % 7 + 1)) ≤ℤ later)
+next_day day w week_day e below =
+    let bound = week_day-lt day w e in
+    let there = week_day_from day (day +ℤ pos ((week_day + 6 - w) % 7 + 1)) w ((week_day + 6 - w) % 7 + 1) 0 e
+    (omega (arith, ints)) in
+    (there ∙ ap pos (omega (arith, bound, below)), first bound)
+  where
+    first : w < 7 → (later : ℤ) → day <ℤ later → week_day_of later ≡ pos week_day
+        → (day +ℤ pos ((week_day + 6 - w) % 7 + 1)) ≤ℤ later
+    first bound later after shown =
+        let gap = up_to day later (omega (arith, ints, after)) in
+        let there = week_day_from day later w gap.0 0 e (omega (arith, ints, gap.1)) in
+        let same = same_week_day later _ _ there shown in
+        omega (arith, ints, same, gap.1, after, bound, below)
+
+-- weeks later in a month, and that each day with the week day is weeks after the first one
+pub weeks_later : (year : ℤ) (month first weeks w : ℕ) → week_day_of (day_number year month first) ≡ pos w
+    → week_day_of (day_number year month (first + 7 * weeks)) ≡ pos w
+weeks_later year month first weeks w e =
+    let apart : day_number year month (first + 7 * weeks) +ℤ pos 0 ≡ day_number year month first +ℤ pos (7 * weeks) =
+    rw (day_number-is year month (first + 7 * weeks), day_number-is year month first) (omega (arith, ints)) in
+    week_day_from (day_number year month first) (day_number year month (first + 7 * weeks)) w (7 * weeks) 0 e apart
+    ∙ ap pos (omega (arith, week_day-lt (day_number year month first) w e))
+
+pub weeks_from_first : (year : ℤ) (month first d w : ℕ) → (1 ≤ first) × (first ≤ 7)
+    → week_day_of (day_number year month first) ≡ pos w → 1 ≤ d → week_day_of (day_number year month d) ≡ pos w
+    → d ≡ first + 7 * ((d - first) / 7)
+weeks_from_first year month first d w bound e low e' =
+    let apart : day_number year month d +ℤ pos first ≡ day_number year month first +ℤ pos d =
+    rw (day_number-is year month d, day_number-is year month first) (omega (arith, ints)) in
+    let there = week_day_from (day_number year month first) (day_number year month d) w d first e apart in
+    let same = same_week_day (day_number year month d) _ _ there e' in
+    omega (arith, same, bound, low, week_day-lt (day_number year month first) w e)

@@ -1,0 +1,6 @@
+pub mod CivilDates
+pub mod DaysOfWeeks
+pub mod YearsOfWeeks
+pub mod DayWalks
+pub mod UniqueDates
+pub mod UniqueStarts

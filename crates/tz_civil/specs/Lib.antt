@@ -1,0 +1,5 @@
+pub mod Dates
+pub mod Steps
+pub mod WeekDays
+pub mod WeekDates
+pub mod DayStarts

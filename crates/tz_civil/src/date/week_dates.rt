@@ -1,0 +1,142 @@
+//! Week dates of ISO 8601, both ways.
+
+ghost use Rattle.std.specs.Prelude.{◌≡◌, ℕ, ℤ, ◌≤◌, ◌+◌, ◌/◌, ◌%◌, pos, ◌+ℤ◌, negsuc, ◌≤ℤ◌, IfSome, IfNone};
+ghost use Rattle.std.specs.Prelude.{◌<ℤ◌, FitsSigned};
+ghost use Rattle.std.specs.Int.{w32};
+ghost use Rattle.tz_base.specs.Days.{week_day_of, year_length, first_day};
+ghost use Rattle.tz_civil.specs.WeekDates.{IsWeekDate};
+
+use super::Date;
+use tz_base::calendar::{first_day_of_year, is_leap_year, week_day_of_day};
+
+/// A week date, as 2025-W01-3: the year in which the week's Thursday lies, the week and the week
+/// day. (ISO 8601)
+///
+/// Any numbers can stand in it: [`Date::from_week_date`] returns `None` if there is no such date.
+#[derive(Clone, Copy, Debug, PartialEq, Eq, PartialOrd, Ord, Hash)]
+pub struct WeekDate {
+    /// The year to which the week belongs.
+    pub year: i32,
+    /// The number of the week, from 1 to 52 or 53.
+    pub week: u8,
+    /// The week day, from Monday = 1 to Sunday = 7.
+    pub week_day: u8,
+}
+
+/// The week day from Monday = 1.
+const fn week_day_from_monday(day: i64) -> u8
+    requires { (negsuc 784353015832 ≤ℤ day) × (day ≤ℤ pos 784351577001) }
+    ensures value { week_day_of day ≡ pos (result % 7) }
+    ensures bound { (1 ≤ result) × (result ≤ 7) }
+{
+    let week_day = week_day_of_day(day);
+    if week_day == 0 { 7 } else { week_day }
+}
+
+/// How many days a year has.
+const fn days_of_year(year: i32) -> u16
+    ensures value { result ≡ year_length year }
+    ensures bound { (365 ≤ result) × (result ≤ 366) }
+{
+    if is_leap_year(year) { 366 } else { 365 }
+}
+
+/// The number of the week in whose year January 1st has the first number, and its Thursday the
+/// second.
+const fn week_of(first: i64, thursday: i64) -> u8
+    requires in_year { (first ≤ℤ thursday) × (thursday ≤ℤ (first +ℤ pos 365)) }
+    requires bound { (negsuc 784353015832 ≤ℤ first) × (first ≤ℤ pos 784351577001) }
+    ensures { (days : ℕ) → thursday ≡ first +ℤ pos days → result ≡ days / 7 + 1 }
+{
+    ((thursday - first) as u64 / 7 + 1) as u8
+}
+
+/// The week date of a day of a year, by its number, or `None` if the week's year does not fit an
+/// `i32`.
+const fn week_date_of_day(this_year: i32, day: i64) -> Option<WeekDate>
+    requires in_year { (first_day this_year ≤ℤ day) × (day <ℤ first_day (this_year +ℤ pos 1)) }
+    requires bound { (negsuc 784353015832 ≤ℤ day) × (day ≤ℤ pos 784351576776) }
+    ensures some { IfSome result (λ w. IsWeekDate day w.year w.week w.week_day) }
+    ensures none { IfNone result ((year : ℤ) (week week_day : ℕ) → IsWeekDate day year week week_day
+        → ¬ FitsSigned w32 year) }
+{
+    let week_day = week_day_from_monday(day);
+    let thursday = day + 4 - week_day as i64;
+    let first = first_day_of_year(this_year);
+    if thursday < first {
+        let Some(year) = this_year.checked_sub(1) else {
+            return None;
+        };
+        let week = week_of(first_day_of_year(year), thursday);
+        return Some(WeekDate {
+            year,
+            week,
+            week_day,
+        });
+    }
+    let next = first + days_of_year(this_year) as i64;
+    if thursday < next {
+        let week = week_of(first, thursday);
+        return Some(WeekDate {
+            year: this_year,
+            week,
+            week_day,
+        });
+    }
+    let Some(year) = this_year.checked_add(1) else {
+        return None;
+    };
+    // A day of the year is at most three days before the Thursday.
+    Some(WeekDate {
+        year,
+        week: 1,
+        week_day,
+    })
+}
+
+/// The number of the day with a week date, where 1970-01-01 has the number 0, if there is one.
+const fn day_of_week_date(date: WeekDate) -> Option<i64>
+    ensures some { IfSome result (λ day. IsWeekDate day date.year date.week date.week_day) }
+    ensures none { IfNone result ((day : ℤ) → ¬ IsWeekDate day date.year date.week date.week_day) }
+{
+    if date.week < 1 || date.week > 53 || date.week_day < 1 || date.week_day > 7 {
+        return None;
+    }
+    let first = first_day_of_year(date.year);
+    let first_thursday = (11 - week_day_from_monday(first)) % 7;
+    let days = first_thursday as u16 + 7 * (date.week as u16 - 1);
+    if days >= days_of_year(date.year) {
+        return None;
+    }
+    Some(first + days as i64 + date.week_day as i64 - 4)
+}
+
+impl Date {
+    ghost use Rattle.std.specs.Prelude.{ℕ, ℤ, IfSome, IfNone, FitsSigned};
+    ghost use Rattle.std.specs.Int.{w32};
+    ghost use Rattle.tz_civil.specs.Dates.{Date, IsDate, number_of};
+    ghost use Rattle.tz_civil.specs.WeekDates.{IsWeekDate};
+
+    /// The week date, or `None` if its year does not fit an `i32`.
+    pub const fn week_date(self) -> Option<WeekDate>
+        ensures some { IfSome result (λ w. IsWeekDate (number_of self) w.year w.week w.week_day) }
+        ensures none { IfNone result ((year : ℤ) (week week_day : ℕ)
+            → IsWeekDate (number_of self) year week week_day → ¬ FitsSigned w32 year) }
+    {
+        week_date_of_day(self.year, self.day_number())
+    }
+
+    /// The date with a week date, or `None` if there is none: the week's year has no such week, the
+    /// week day is not in 1 to 7, or the date is outside the years of 32 bits.
+    pub const fn from_week_date(week_date: WeekDate) -> Option<Self>
+        ensures some { IfSome result (λ d. IsWeekDate (number_of d) week_date.year week_date.week
+            week_date.week_day) }
+        ensures none { IfNone result ((d : Date) → IsDate d
+            → ¬ IsWeekDate (number_of d) week_date.year week_date.week week_date.week_day) }
+    {
+        let Some(day) = day_of_week_date(week_date) else {
+            return None;
+        };
+        Date::from_day_number(day)
+    }
+}

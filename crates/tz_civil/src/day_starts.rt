@@ -1,0 +1,201 @@
+//! When a date begins in a time zone.
+
+ghost use Rattle.std.specs.Prelude.{◌≡◌, ℤ, pos, negsuc, ◌+ℤ◌, ◌-ℤ◌, ◌≤ℤ◌, ◌<ℤ◌, IfOk, IfErr, IfSome, IfNone, MatchOption};
+ghost use Rattle.tz_zone.specs.Clock.{IsClock};
+ghost use Rattle.tz_zone.specs.Table.{Zone};
+ghost use Rattle.tz_zone.specs.ZoneRef.{zone_of};
+ghost use Rattle.tz_civil.specs.Dates.{number_of};
+ghost use Rattle.tz_civil.specs.DayStarts.{HasNotShown, IsDayWindow, IsSkippedDay, IsStartFault, StartsDay, StartsWith, midnight};
+
+use crate::Date;
+use tz::DateTime;
+use tz::inner::{WindowTypes, plain, types_of_window};
+use tz_base::constants::SECONDS_PER_DAY;
+use tz_base::error::TzError;
+use tz_base::order::lesser_i64;
+use tz_zone::timezone::{LocalTimeType, TimeZoneRef};
+
+/// An instant, and the type that a clock has there.
+#[derive(Clone, Copy)]
+struct Shown<'a> {
+    unix_time: i64,
+    local_time_type: &'a LocalTimeType,
+}
+
+/// The instant at which a clock with an offset shows a reading.
+const fn instant_of(reading: i64, offset: i32) -> i64
+    requires { (negsuc 80000000000000000 ≤ℤ reading) × (reading ≤ℤ pos 80000000000000000) }
+    ensures { result ≡ reading -ℤ offset }
+{
+    reading - offset as i64
+}
+
+/// The first and the last instant at which a clock with offsets from the least to the greatest one
+/// can show a day, whose first reading is given.
+const fn window(first_reading: i64, least: i32, greatest: i32) -> (i64, i64)
+    requires { (negsuc 70000000000000000 ≤ℤ first_reading)
+        × (first_reading ≤ℤ pos 70000000000000000) }
+    ensures low { result.0 ≡ first_reading -ℤ greatest }
+    ensures high { result.1 ≡ first_reading +ℤ pos 86399 -ℤ least }
+{
+    let last_reading = first_reading + SECONDS_PER_DAY - 1;
+    (
+        instant_of(first_reading, greatest),
+        instant_of(last_reading, least),
+    )
+}
+
+/// The first instant from `at` to `last` at which a clock with an offset shows the day whose first
+/// reading is given.
+const fn first_shown(offset: i32, at: i64, last: i64, first_reading: i64) -> Option<i64>
+    requires small { (negsuc 70000000000000000 ≤ℤ first_reading)
+        × (first_reading ≤ℤ pos 70000000000000000) }
+    requires order { at ≤ℤ last }
+    ensures some { IfSome result (λ u. (at ≤ℤ u) × (u ≤ℤ last) × (first_reading ≤ℤ (u +ℤ offset))
+        × ((u +ℤ offset) <ℤ (first_reading +ℤ pos 86400))
+        × ((v : ℤ) → at ≤ℤ v → v <ℤ u → (v +ℤ offset) <ℤ first_reading)) }
+    ensures none { IfNone result ((v : ℤ) → at ≤ℤ v → v ≤ℤ last → first_reading ≤ℤ (v +ℤ offset)
+        → (first_reading +ℤ pos 86400) ≤ℤ (v +ℤ offset)) }
+{
+    let begins = first_reading - offset as i64;
+    if begins > last {
+        return None;
+    }
+    if begins >= at {
+        return Some(begins);
+    }
+    if at < begins + SECONDS_PER_DAY {
+        return Some(at);
+    }
+    None
+}
+
+/// The start of a day, whose first reading is given, if the clock has one type from `low` up to the
+/// instant before another one, and a second type from there to `high`.
+fn first_around<'a>(
+    first_reading: i64,
+    low: i64,
+    unix_time: i64,
+    high: i64,
+    before: &'a LocalTimeType,
+    after: &'a LocalTimeType,
+) -> Option<Shown<'a>>
+    requires small { (negsuc 70000000000000000 ≤ℤ first_reading)
+        × (first_reading ≤ℤ pos 70000000000000000) }
+    requires order { (low <ℤ unix_time) × (unix_time ≤ℤ high) }
+    ensures { (z : Zone) (day : ℤ) → first_reading ≡ midnight day → HasNotShown z day low
+        → ((v : ℤ) → low ≤ℤ v → v <ℤ unix_time → IsClock z v before.entry.now)
+        → ((v : ℤ) → unix_time ≤ℤ v → v ≤ℤ high → IsClock z v after.entry.now)
+        → MatchOption result (HasNotShown z day (high +ℤ pos 1))
+        (λ s. StartsWith z day s.unix_time s.local_time_type.now) }
+{
+    let offset = before.ut_offset();
+    if let Some(unix_time) = first_shown(offset, low, unix_time - 1, first_reading) {
+        return Some(Shown {
+            unix_time,
+            local_time_type: before,
+        });
+    }
+    let offset = after.ut_offset();
+    if let Some(unix_time) = first_shown(offset, unix_time, high, first_reading) {
+        return Some(Shown {
+            unix_time,
+            local_time_type: after,
+        });
+    }
+    None
+}
+
+/// The start of a day by the segments of the clock in the day's window.
+#[cold]
+fn first_by_segments<'a>(
+    zone: TimeZoneRef<'a>,
+    day: i64,
+    low: i64,
+    high: i64,
+) -> Result<Option<Shown<'a>>, TzError>
+    requires day { (negsuc 784353015832 ≤ℤ day) × (day ≤ℤ pos 784351576776) }
+    requires window { IsDayWindow (zone_of zone) day low high }
+    requires small { high ≤ℤ pos 80000000000000000 }
+    ensures ok { IfOk result (λ found. MatchOption found (IsSkippedDay (zone_of zone.entry) day)
+        (λ s. StartsWith (zone_of zone.entry) day s.unix_time s.local_time_type.now)) }
+    ensures err { IfErr result (IsStartFault (zone_of zone.entry) day) }
+{
+    let mut has_type = false;
+    let mut at = low;
+    while at <= high {
+        let segment = zone.segment_at(at);
+        let last = lesser_i64(segment.last(), high);
+        if let Some(local_time_type) = segment.local_time_type() {
+            let offset = local_time_type.ut_offset();
+            if let Some(unix_time) = first_shown(offset, at, last, SECONDS_PER_DAY * day) {
+                return Ok(Some(Shown {
+                    unix_time,
+                    local_time_type,
+                }));
+            }
+            has_type = true;
+        }
+        at = last + 1;
+    }
+    if has_type {
+        return Ok(None);
+    }
+    match zone.find_local_time_type(low) {
+        Ok(_) => Ok(None),
+        Err(error) => Err(error),
+    }
+}
+
+/// The start of a day, by its number, with the type that the clock has there.
+fn first_of_day<'a>(zone: TimeZoneRef<'a>, day: i64) -> Result<Option<Shown<'a>>, TzError>
+    requires { (negsuc 784353015832 ≤ℤ day) × (day ≤ℤ pos 784351576776) }
+    ensures ok { IfOk result (λ found. MatchOption found (IsSkippedDay (zone_of zone.entry) day)
+        (λ s. StartsWith (zone_of zone.entry) day s.unix_time s.local_time_type.now)) }
+    ensures err { IfErr result (IsStartFault (zone_of zone.entry) day) }
+{
+    let parts = plain(&zone);
+    let (least, greatest) = parts.offsets();
+    let first_reading = SECONDS_PER_DAY * day;
+    let (low, high) = window(first_reading, least, greatest);
+    match types_of_window(&parts, low, high) {
+        WindowTypes::One(local_time_type) => Ok(Some(Shown {
+            unix_time: instant_of(first_reading, local_time_type.ut_offset()),
+            local_time_type,
+        })),
+        WindowTypes::Two {
+            unix_time,
+            before,
+            after,
+        } => Ok(first_around(first_reading, low, unix_time, high, before, after)),
+        WindowTypes::More(_) => first_by_segments(zone, day, low, high),
+    }
+}
+
+/// The first date time of a date in a zone: what its clock shows at the least instant at which it
+/// shows the date. `None` if the clock skips the date whole, as when an island crosses the date
+/// line. This call does not allocate.
+///
+/// That is mostly midnight, but the clock may skip midnight, show it twice, or be set forward over
+/// it and back again.
+///
+/// # Errors
+///
+/// [`TzError::NoAvailableLocalTimeType`] or [`TzError::OutOfRange`] if the clock has no type at any
+/// instant at which it could show the date, by the zone's offsets: that of
+/// [`TimeZoneRef::find_local_time_type`] at the first of these instants.
+pub fn start_of_day(zone: &TimeZoneRef<'_>, date: Date) -> Result<Option<DateTime>, TzError>
+    ensures ok { IfOk result (λ found. MatchOption found
+        (IsSkippedDay (zone_of zone.now) (number_of date))
+        (StartsDay (zone_of zone.now) (number_of date))) }
+    ensures err { IfErr result (IsStartFault (zone_of zone.now) (number_of date)) }
+{
+    let found = first_of_day(*zone, date.day_number())?;
+    let Some(shown) = found else {
+        return Ok(None);
+    };
+    match DateTime::from_timespec_and_local(shown.unix_time, 0, *shown.local_time_type) {
+        Ok(start) => Ok(Some(start)),
+        Err(error) => Err(error),
+    }
+}
