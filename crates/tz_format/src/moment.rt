@@ -1,0 +1,13 @@
+//! What patterns print of a date time.
+
+use tz_base::fields::Fields;
+
+/// The fields, the offset from UTC in seconds, the name of the type, which is empty if there is
+/// none, and the Unix time.
+#[derive(Clone, Copy)]
+pub(crate) struct Moment<'a> {
+    pub(crate) fields: Fields,
+    pub(crate) ut_offset: i32,
+    pub(crate) designation: &'a str,
+    pub(crate) unix_time: i64,
+}
