@@ -41,7 +41,8 @@ fn segments_go_from_change_to_change(rt: HostRuntime) -> Result<(), TzError> {
     ];
     let zone = TimeZoneRef::new(&transitions, &types, &[], &rule)?;
     for row in &BY_RULE {
-        expect_segment(&rt, &zone, row.0.midpoint(row.1), row);
+        let half = row.1.saturating_sub(row.0) / 2;
+        expect_segment(&rt, &zone, row.0.saturating_add(half), row);
     }
     let leap_seconds = leap_seconds_from_the_fifth();
     let transitions = [
