@@ -3,7 +3,7 @@ function of a source. In them what rustc does not take in constants is written o
 
     i64::from(x)                    x as i64                   and other integers that lose nothing
     let x = call()?;                let x = match call() { Ok(value) => value, Err(error) => return Err(error) };
-    for i in 0..n { .. }            let mut i = 0; while i < n { .. i += 1; }
+    for i in 0..n { .. }            { let mut i = 0; let i_end = n; while i < i_end { .. i += 1; } }
     a.min(b), a.max(b)              least!(a, b), greatest!(a, b)   macros of the shim
     &bytes[..n]                     bytes.split_at(n).0
     i64::try_from(x)                a call of the shim
@@ -12,7 +12,7 @@ import re
 
 from . import erasure
 from .structure import functions_of
-from .tokens import OPEN, Stop, closing, edited, line_of, tokens_of
+from .tokens import OPEN, Stop, closing, edited, tokens_of
 
 EVERY = "every function"
 INTEGERS = {"u8", "u16", "u32", "u64", "u128", "i16", "i32", "i64", "i128", "usize"}
@@ -69,10 +69,17 @@ def with_casts(path, name, text):
             inner = f"({inner})"
         before, after = tokens[at - 1].text, tokens[end + 1].text
         new = f"{inner} as {tokens[at].text}"
-        is_unary = tokens[at - 2].kind == "mark" and tokens[at - 2].text not in OPEN.values()
+        is_unary = not ends_operand(tokens[at - 2])
         if before == "!" or before in ("-", "*", "&") and is_unary or after in (".", "<", "?", "["):
             new = f"({new})"
         text = edited(text, [(tokens[at].start, tokens[end].end, new)])
+
+
+def ends_operand(token):
+    """Whether an operator after a token is one of two operands. After a brace it may be either."""
+    if token.kind == "mark":
+        return token.text in (")", "]", "?")
+    return token.kind != "word" or token.text not in KEYWORDS
 
 
 def chain_start(tokens, at):
@@ -100,7 +107,7 @@ def chain_start(tokens, at):
         at -= 1
 
 
-KEYWORDS = {"return", "match", "if", "else", "in", "let", "while", "mut"}
+KEYWORDS = {"as", "break", "else", "if", "in", "let", "loop", "match", "move", "mut", "return", "unsafe", "while"}
 
 
 def with_returns(path, name, text):
@@ -169,6 +176,12 @@ def with_narrowings(path, name, text):
     return re.sub(r"\bi64::try_from\(", "crate::shim::narrow(", text)
 
 
+# What a body may not have that becomes that of a `while`.
+NO_LOOP = (
+    (r"\bcontinue\b", "a loop that continues"),
+    (r"\bINDEX_end\b", "a loop that has the name of its bound"),
+    (r"\b(?:let|for)\b[^=;{}]*\bINDEX\b|\bINDEX\s*(?:[-+*/%&|^]|<<|>>)?=(?!=)|&mut INDEX\b", "a loop that binds or sets its index"),
+)
 FOR = re.compile(r"\bfor (\w+) in ([^{};]+?)\.\.([^{};=]+?) \{")
 
 
@@ -179,11 +192,16 @@ def with_whiles(path, name, text):
             return text
         tokens = tokens_of(path, text)
         opening = next(at for at, it in enumerate(tokens) if it.end == found.end())
-        end = tokens[closing(path, tokens, opening)].start
+        close = tokens[closing(path, tokens, opening)]
         index, low, high = found.groups()
-        if re.search(r"\bcontinue\b", text[found.end() : end]):
-            raise Stop("a loop that continues")
+        body = text[found.end() : close.start]
+        for pattern, what in NO_LOOP:
+            if re.search(pattern.replace("INDEX", index), f"{low} {high} {body}"):
+                raise Stop(f"{what}: {found[0]}")
+        if text[: found.start()].rstrip().endswith(":"):
+            raise Stop(f"a loop with a label: {found[0]}")
+        # The bound is read once, and the index is no name of what comes after.
         text = (
-            f"{text[: found.start()]}let mut {index} = {low};\nwhile {index} < {high} {{{text[found.end() : end]}"
-            f"{index} += 1;\n{text[end:]}"
+            f"{text[: found.start()]}{{ let mut {index} = {low};\nlet {index}_end = {high};\n"
+            f"while {index} < {index}_end {{{body}{index} += 1;\n}} }}{text[close.end :]}"
         )

@@ -1,7 +1,7 @@
 """Cuts what is ghost: clauses, ghost items, models, proofs and tactics. What is left is Rust's tokens alone."""
 import re
 
-from .tokens import SPACE, Stop, line_of, token_at
+from .tokens import SPACE, Stop, found_again, hidden, line_of, token_at
 
 # A clause of a function stands between its signature and its body.
 CLAUSE = re.compile(r"(?:requires|ensures\*?)\s*(?:[a-z_]\w*\s*)?(?=\{)")
@@ -10,8 +10,22 @@ GHOST_ITEM = re.compile(r"[A-Za-z_]\w*\s*[=:]\s*(?=\{)")
 MODEL = re.compile(r"impl\s+Model\s+for\s+[A-Z]\w*\s*(?=\{)")
 PROOF = re.compile(r"const\s+_\s*:\s*\(\s*\)\s*=\s*prove!\s*(?=\()")
 TACTIC = re.compile(r"#!?\[\s*tactic\s*(?=\()")
-BRACE_IN_TEXT = re.compile(r'"[^"\n]*[{}][^"\n]*"')
+# Where brackets mean nothing in ghost code.
+NOT_COUNTED = (
+    (re.compile(r'"[^"\n]*[(){}][^"\n]*"'), "a brace in a text"),
+    (re.compile(r"(?:--|//)[^\n]*[(){}\"]"), "a bracket or a quote in a comment"),
+    (re.compile(r"'\\?[(){}\"]'|/\*|\{-"), "a bracket in a character or a comment"),
+)
 GHOST_WORDS = {"ghost", "requires", "ensures", "follows", "prove", "tactic", "decreases", "invariant", "axiom", "lemma"}
+
+
+def is_within(path, text, start, end):
+    """Stops at a line of ghost code further to the left than the line on which it begins: it is not of that code."""
+    lines = text[text.rfind("\n", 0, start) + 1 : end + 1].split("\n")
+    indent = len(lines[0]) - len(lines[0].lstrip())
+    for number, line in enumerate(lines):
+        if line.strip() and len(line) - len(line.lstrip()) < indent:
+            raise Stop(f"{path}:{line_of(text, start) + number}: ghost code that goes on further to the left")
 
 
 def group_end(path, text, at, opening, closing):
@@ -24,9 +38,11 @@ def group_end(path, text, at, opening, closing):
             depth -= 1
             if depth == 0:
                 line_end = text.find("\n", place)
-                found = BRACE_IN_TEXT.search(text, at, max(line_end, place))
-                if found:
-                    raise Stop(f"{path}:{line_of(text, found.start())}: a brace in a text of ghost code")
+                for pattern, what in NOT_COUNTED:
+                    found = pattern.search(text, at, max(line_end, place))
+                    if found:
+                        raise Stop(f"{path}:{line_of(text, found.start())}: {what} of ghost code")
+                is_within(path, text, at, place)
                 return place + 1
     raise Stop(f"{path}:{line_of(text, at)}: {opening} is not closed")
 
@@ -78,8 +94,8 @@ def start_of_docs(text, at):
     return at
 
 
-def without_ghosts(path, text):
-    """The text without what is ghost. Comments and docs stay."""
+def without_ghosts(path, text, lines=False):
+    """The text without what is ghost. Comments and docs stay, and `lines` keeps the number of each line."""
     at, kept, pieces = 0, 0, []
     before = None
     while True:
@@ -117,8 +133,8 @@ def without_ghosts(path, text):
         newline = text.find("\n", end)
         if not text[line:start].strip() and not text[end : max(newline, end)].strip() and line >= kept:
             start, end = line, max(newline + 1, end)
-        pieces.append(text[kept:start])
+        pieces += [text[kept:start], "\n" * text.count("\n", start, end) if lines else ""]
         kept = at = end
         before = None
-    rest = "".join(pieces) + text[kept:]
-    return re.sub(r"[ \t]+\n", "\n", rest)
+    rest, texts = hidden(path, "".join(pieces) + text[kept:])
+    return found_again(re.sub(r"[ \t]+\n", "\n", rest), texts)

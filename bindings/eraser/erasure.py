@@ -3,6 +3,8 @@ import os
 import re
 from dataclasses import dataclass, field
 
+TOP = os.path.dirname(os.path.dirname(os.path.dirname(os.path.realpath(__file__))))
+
 
 @dataclass
 class Package:
@@ -22,6 +24,8 @@ class Package:
     std_paths: tuple = ()
     # The file of the functions that C calls, if there are some.
     exports: str = ""
+    # Whether items say which feature of the package they need.
+    features: bool = False
 
     @property
     def modules(self):
@@ -62,13 +66,15 @@ STD = (
 PACKAGES = (
     Package(
         folder="bindings/rust/src/proved",
-        crates=("tz_base", "tz_rule", "tz_zone", "tz"),
+        crates=("tz_base", "tz_rule", "tz_zone", "tz", "tz_civil", "tz_format"),
         root="crate::proved",
         skipped=(
             "crates/tz_base/src/laws.rt",
             "crates/tz_rule/src/laws.rt",
             "crates/tz_zone/src/laws.rt",
             "crates/tz/src/laws.rt",
+            "crates/tz_civil/src/laws.rt",
+            "crates/tz_format/src/constants.rt",
         ),
         by_hand={
             "crates/tz_rule/src/timezone/utc_statics.rt": "bindings/rust/src/proved/tz_rule/timezone/utc_statics.rs",
@@ -76,6 +82,7 @@ PACKAGES = (
             "": "bindings/rust/src/proved/mod.rs",
         },
         std_paths=STD,
+        features=True,
     ),
     # The C library, over the crate's inner calls.
     Package(
@@ -119,6 +126,12 @@ EXACT = {
             "        return Some((i64::from(number), &bytes[end..]));\n    } }",
         ),
     ),
+    # The program with zones of its own ends as the proved one does.
+    "crates/tz_query/src/query/program.rt": (
+        ("\nfn fail<E: Write>(", "\npub(crate) fn fail<E: Write>("),
+        ("\nfn line_of(", "\npub(crate) fn line_of("),
+    ),
+    "crates/tz_query/src/query/mod.rt": (("mod program;", "pub(crate) mod program;"),),
     "crates/tz_query/src/query/answers.rt": (
         ("local_time_type.ut_offset().cast_unsigned()", "local_time_type.ut_offset() as u32"),
     ),
@@ -130,6 +143,9 @@ LEFT_OUT = {
     "crates/tz_rule/src/lib.rt": {"laws"},
     "crates/tz_zone/src/lib.rt": {"laws"},
     "crates/tz/src/lib.rt": {"laws"},
+    "crates/tz_civil/src/lib.rt": {"laws"},
+    # In Rust constants are checked by tests.
+    "crates/tz_format/src/lib.rt": {"constants"},
     "crates/tz_query/src/lib.rt": {"laws"},
     "crates/tz_c/src/lib.rt": {"laws"},
     # In Rust one implementation is for all that is a `TzError`.
@@ -145,6 +161,15 @@ LEFT_OUT = {
         "DateTime::listed_counted",
     },
     "crates/tz_zone/src/timezone/zone_ref.rt": {"TimeZoneRef::find_local_time_type_counted"},
+}
+
+# Fields that are not compared in Rattle, and follow from those that are.
+SKIPPED = {"crates/tz/src/datetime/utc_date_time.rt": ("unix_time:",)}
+
+# Functions that are methods of another crate's type in Rust (methods.py).
+METHODS = {
+    "crates/tz_civil/src/date.rt": {"Date::of": "UtcDateTime::date", "Date::of_date_time": "DateTime::date"},
+    "crates/tz_civil/src/day_starts.rt": {"start_of_day": "TimeZoneRef::start_of_day"},
 }
 
 # Structs whose fields the C library writes, from pointers.
@@ -175,6 +200,12 @@ OTHER_EXAMPLES = {
     "crates/tz_zone/src/timezone/zone.rt",
     "crates/tz_zone/src/parse/tz_file.rt",
 }
+
+
+def sources_named():
+    """The sources that these tables name."""
+    tables = (EXACT, LEFT_OUT, SKIPPED, METHODS, OPEN_FIELDS, CONST, dict.fromkeys(OTHER_EXAMPLES))
+    return sorted({path for table in tables for path in table if path.startswith("crates/")})
 
 
 def constants():

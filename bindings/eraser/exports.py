@@ -4,12 +4,21 @@ C's parameters, which makes references of the pointers and calls it.
 
     bytes: &[u8]          bytes: *const u8, bytes_length: usize     list(bytes, bytes_length)
     text: &mut [u8]       text: *mut u8, text_length: usize         list_mut(text, text_length)
-    zone: &ZoneData<'_>   zone: &Zone                               &zone.data()
+    fields: &T            fields: *const T                          one(fields)
+    out: &mut T           out: *mut T                               &mut Out::new(out).value
+    zone: &ZoneData<'_>   zone: *const Zone                         &one(zone).data()
     alloc: Global         (it takes no bytes)                       Global
-    out: &mut T, n: u8    as they stand                             as they stand
+    n: u8                 as it stands                              as it stands
+
+What the source's function writes to an `Out` goes to C's pointer when it has returned, so that may
+be a pointer to what it reads.
+
+A struct of slices is in C one of pointers and lengths, since Rust promises no layout of a slice in
+a struct, and no slice is null. It is made of the source's fields, and so is what converts it.
 """
 import re
 
+from . import erasure
 from .structure import items_of
 from .tokens import OPEN, Stop, closing, tokens_of
 
@@ -24,7 +33,39 @@ HEAD = """//! The functions of tz.h, each by one pattern: from what C passes it 
 //! source takes, and calls that.
 #![allow(unsafe_code)]
 
-use crate::pointers::{Parts, Zone, list, list_mut};
+use crate::pointers::{Out, list, list_mut, one};
+#[cfg(feature = "zones")]
+use crate::pointers::lent;
+"""
+MIRROR = """
+/// A `{path}` as C has it: pointers and lengths.
+#[repr(C)]
+pub struct {mirror} {{
+    {fields}
+}}
+
+// `tz_layout` writes the size of what the functions take.
+const _: () = assert!(size_of::<{mirror}>() == size_of::<{name}<'static>>());
+
+impl {mirror} {{
+    /// The slices.
+    ///
+    /// # Safety
+    ///
+    /// Each pointer is as [`list`] requires it, as long as the slices are used.
+    #[inline(always)]
+    pub(crate) unsafe fn data(&self) -> {name}<'_> {{
+        // SAFETY: `list` requires of each pointer what this function does.
+        unsafe {{ {name} {{ {slices} }} }}
+    }}
+
+    /// What C sees of slices of the library's own memory.
+    #[cfg(feature = "zones")]
+    pub(crate) fn of(data: {name}<'static>) -> Self {{
+        {lent}
+        {mirror} {{ {names} }}
+    }}
+}}
 """
 FUNCTION = """
 {docs}#[unsafe(no_mangle)]
@@ -41,9 +82,15 @@ UNSAFE_FUNCTION = """
 pub unsafe extern "C" fn {name}({taken}) {answer} {{
     // SAFETY: tz.h asks of a caller what these require.
     let {names} = unsafe {{ {values} }};
-    {module}::{name}({passed})
+    {call}
 }}
 """
+CALL = "{module}::{name}({passed})"
+# The answer says whether anything was written.
+WRITING_CALL = """let answer = {module}::{name}({passed});
+    // SAFETY: tz.h asks of a caller what these require.
+    unsafe {{ {writes} }};
+    answer"""
 
 
 def without_exports(path, text):
@@ -120,21 +167,58 @@ def exported(sources):
             used.add(module)
             docs = items[name].partition("#[")[0]
             functions.append(function(path, module, docs, name, given, answer, paths, used))
-    return HEAD + uses(used) + "".join(functions)
+    mirrors = [mirror(path, module, text, name, used) for path, module, text in sources for name in erasure.OPEN_FIELDS.get(path, ())]
+    return HEAD + uses(used) + "".join(mirrors + functions)
+
+
+def mirror(path, module, text, name, used):
+    """The struct of pointers that C has for a struct of slices."""
+    paths = {**paths_of(module, text), name: f"{module}::{name}"}
+    used.add(paths[name])
+    body = re.search(rf"^pub struct {name}<'a> \{{\n(.*?)^\}}", text, re.S | re.M)[1]
+    fields, slices, lent = [], [], []
+    for line in body.strip().split("\n"):
+        found = re.fullmatch(r"\s*pub (\w+): (?:(?P<list>&'a \[(\w+)\])|(\w+)(<'a>)?),", line)
+        if not found or found[5] and found[4] not in MIRRORS:
+            raise Stop(f"{path}: {name} has what is not known to cross: {line.strip()}")
+        word, kind = found[1], found[3] or found[4]
+        if found["list"]:
+            fields += [f"{word}: *const {kind}", f"{word}_length: usize"]
+            slices.append(f"{word}: list(self.{word}, self.{word}_length)")
+            lent.append(f"let ({word}, {word}_length) = lent(data.{word});")
+        elif kind in MIRRORS:
+            fields.append(f"{word}: {MIRRORS[kind]}")
+            slices.append(f"{word}: self.{word}.data()")
+            lent.append(f"let {word} = {MIRRORS[kind]}::of(data.{word});")
+            continue
+        else:
+            fields.append(f"{word}: {kind}")
+            slices.append(f"{word}: self.{word}")
+            lent.append(f"let {word} = data.{word};")
+        used.add(paths[kind])
+    return MIRROR.format(
+        path=name,
+        name=name,
+        mirror=MIRRORS[name],
+        fields=",\n    ".join(fields),
+        slices=", ".join(slices),
+        lent="\n        ".join(lent),
+        names=", ".join(it.partition(":")[0] for it in fields),
+    )
 
 
 def function(path, module, docs, name, given, answer, paths, used):
     """The function with C's parameters. Adds the paths of the types that it names to those used."""
-    # What C passes, what is made of it, and what is passed on.
-    taken, made, passed = [], [], []
+    # What C passes, what is made of it, what is passed on, and what is written at the end.
+    taken, made, passed, written = [], [], [], []
     for word, kind in given:
         found = PARAMETER.fullmatch(kind)
         of = found and found["type"]
         if not found or not (re.fullmatch(NUMBER, of) or of in paths):
             raise Stop(f"{path}: {name} takes what is not known to cross: {kind}")
         if of in MIRRORS and kind == f"&{of}<'_>":
-            taken.append(f"{word}: &{MIRRORS[of]}")
-            made.append((word, f"{word}.data()"))
+            taken.append(f"{word}: *const {MIRRORS[of]}")
+            made.append((word, f"one({word}).data()"))
             passed.append(f"&{word}")
             continue
         if of in paths:
@@ -144,13 +228,22 @@ def function(path, module, docs, name, given, answer, paths, used):
         if of == "Global":
             passed.append(of)
             continue
-        passed.append(word)
+        passed.append(f"&mut {word}.value" if found["mut"] and not found["list"] else word)
         if found["list"]:
             pointer, call = ("*mut", "list_mut") if found["mut"] else ("*const", "list")
             taken += [f"{word}: {pointer} {of}", f"{word}_length: usize"]
             made.append((word, f"{call}({word}, {word}_length)"))
+        elif found["mut"]:
+            taken.append(f"{word}: *mut {of}")
+            made.append((f"mut {word}", f"Out::new({word})"))
+            written.append(f"{word}.write(answer)")
+        elif found["reference"]:
+            taken.append(f"{word}: *const {of}")
+            made.append((word, f"one({word})"))
         else:
             taken.append(f"{word}: {kind}")
+    if written and answer != "-> u32":
+        raise Stop(f"{path}: {name} writes to a value, and answers no code: {answer}")
     words = {
         "docs": docs,
         "name": name,
@@ -160,7 +253,9 @@ def function(path, module, docs, name, given, answer, paths, used):
         "passed": ", ".join(passed),
         "names": tuple_of([word for word, _ in made]),
         "values": tuple_of([value for _, value in made]),
+        "writes": "; ".join(written),
     }
+    words["call"] = (WRITING_CALL if written else CALL).format(**words)
     return (UNSAFE_FUNCTION if made else FUNCTION).format(**words)
 
 

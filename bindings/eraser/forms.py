@@ -1,12 +1,15 @@
 """Rewrites what is left of a source, after the cut, to Rust: each function is a form, and erasure.py has the names to which forms apply."""
+import functools
+import os
 import re
 
 from . import erasure
-from .constant import made_constant
+from .constant import INTEGERS, ends_operand, made_constant
 from .cut import without_ghosts
 from .exports import with_open_fields, with_open_modules
+from .methods import called_as_method, with_methods
 from .structure import functions_of, items_of
-from .tokens import OPEN, Stop, closing, edited, line_of, tokens_of
+from .tokens import OPEN, Stop, closing, edited, found_again, hidden, line_of, tokens_of
 
 # Those of the shim are the eraser's own.
 KNOWN_MACROS = {"anyhow", "matches", "write", "writeln", "unreachable", "format", "vec"}
@@ -19,18 +22,20 @@ def erased(package, path, text):
         if text.count(old) != 1:
             raise Stop(f"{path}: {old!r} stands {text.count(old)} times, not once")
         text = text.replace(old, new)
-    text = without_ghosts(path, text)
-    known(path, text)
+    known(path, without_ghosts(path, text, lines=True))
+    # From here on a pattern finds code alone.
+    text, texts = hidden(path, without_ghosts(path, text))
     text = left_out(package, path, text)
     text = without_laws(path, text)
-    text = with_errors(path, text)
+    text = with_errors(path, text, texts)
     text = with_derives(path, text)
     text = with_formatters(path, text)
     text = with_views(path, text)
     text = with_safe_text(path, text)
     text = made_constant(path, text)
+    text = with_methods(path, text)
     text = with_bounds(path, text)
-    text = with_paths(package, path, text)
+    text = found_again(with_paths(package, path, text), texts)
     text = with_open_fields(text, erasure.OPEN_FIELDS.get(path, ()))
     if package.exports and path.endswith("/src/lib.rt"):
         text = with_open_modules(text)
@@ -38,8 +43,10 @@ def erased(package, path, text):
 
 
 def known(path, text):
-    """Stops at a macro or an attribute that is not known."""
+    """Stops at a macro or an attribute that is not known, and at forms that mean something else in Rust."""
     tokens = tokens_of(path, text)
+    for stops in (stops_at_floats, stops_at_ranges, stops_at_sizes, stops_at_orders):
+        stops(path, text, tokens)
     for at, token in enumerate(tokens[:-1]):
         if any(ord(letter) > 127 for letter in token.text) and token.kind != "string":
             raise Stop(f"{path}:{line_of(text, token.start)}: a letter that is not ASCII")
@@ -50,6 +57,94 @@ def known(path, text):
             name = at + 1 + (tokens[at + 1].text == "!") + 1
             if tokens[name].text not in KNOWN_ATTRIBUTES:
                 raise Stop(f"{path}:{line_of(text, token.start)}: an attribute that is not known: {tokens[name].text}")
+
+
+def stops_at_floats(path, text, tokens):
+    """The lesser of two floats is another one in Rust."""
+    for token in tokens:
+        if token.kind == "number" and re.search(r"^(?!0x).*(?:\.|f32|f64|[0-9]e)", token.text) or token.text in ("f32", "f64"):
+            raise Stop(f"{path}:{line_of(text, token.start)}: a float")
+
+
+def stops_at_ranges(path, text, tokens):
+    """A range without an end goes on after the last number in Rattle, and what a struct takes from another is read only if it has it."""
+    inside = []
+    for at, token in enumerate(tokens):
+        if token.text in OPEN:
+            inside.append(token.text)
+        elif token.text in OPEN.values():
+            inside.pop()
+        if token.text != ".." or at == 0:
+            continue
+        last, following = tokens[at - 1], tokens[at + 1]
+        is_pattern = tokens[at - 2].text in ("@", "|") or following.text in ("=>", "|")
+        if ends_operand(last) and not following.text == "]" and not is_pattern and (following.text in OPEN.values() or following.text in ("{", ";", ",", ".")):
+            raise Stop(f"{path}:{line_of(text, token.start)}: a range without an end")
+        if inside[-1:] == ["{"] and last.text in (",", "{") and following.text != "}":
+            for part in tokens[at + 1 :]:
+                if part.text in ("}", ","):
+                    break
+                if part.kind != "word" and part.text not in ("*", "."):
+                    raise Stop(f"{path}:{line_of(text, token.start)}: fields of what is computed")
+
+
+NUMBERS = {"bool", "char", *INTEGERS, "isize"}
+
+
+def stops_at_sizes(path, text, tokens):
+    """The compilers lay out differently what does not say how it lies."""
+    for at, token in enumerate(tokens):
+        if token.text in ("size_of_val", "align_of", "align_of_val", "offset_of", "transmute"):
+            raise Stop(f"{path}:{line_of(text, token.start)}: how a value lies: {token.text}")
+        if token.text != "size_of" or tokens[at + 1].text in (";", ",", "}"):
+            continue
+        name = tokens[at + 3]
+        end = next(it for it in range(at + 3, len(tokens)) if tokens[it].text == "(")
+        rest = "".join(it.text for it in tokens[at + 4 : end])
+        if tokens[at + 1].text != "::" or rest not in (">", "<'static>>", "<'_>>", "<'a>>"):
+            raise Stop(f"{path}:{line_of(text, token.start)}: the size of what is not known")
+        if name.text not in NUMBERS and not is_laid_out(path, text, name.text):
+            raise Stop(f"{path}:{line_of(text, token.start)}: the size of {name.text}, which is not repr(C)")
+
+
+STRUCT = re.compile(r"^((?:#\[.*\]\n)*)(?:pub(?:\(\w+\))? )?(?:struct|enum) (\w+)", re.M)
+
+
+def layouts_of(text):
+    """The name of each struct and enum, and whether it says how it lies."""
+    return [(it[2], "#[repr(C)]" in it[1]) for it in STRUCT.finditer(text)]
+
+
+@functools.lru_cache()
+def layouts(crate):
+    """The layouts of a crate, by its sources."""
+    made = []
+    for where, _, names in os.walk(f"{erasure.TOP}/crates/{crate}/src"):
+        for name in names:
+            with open(f"{where}/{name}", encoding="utf-8") as file:
+                made += layouts_of(file.read())
+    return made
+
+
+def is_laid_out(path, text, name):
+    """Whether each type of this name is repr(C): that of the source, or else those of the crate from which it is imported, or of all crates."""
+    own = path.split("/")[1]
+    imported = re.search(rf"^use (\w+)::[^;]*\b{name}\b[^;]*;", text, re.M)
+    crate = imported and {"crate": own, "super": own}.get(imported[1], imported[1])
+    crates = sorted({it for package in erasure.PACKAGES for it in package.crates})
+    for found in (layouts_of(text), layouts(crate) if crate else [], [it for other in crates for it in layouts(other)]):
+        found = [laid_out for other, laid_out in found if other == name]
+        if found:
+            return all(found)
+    return False
+
+
+def stops_at_orders(path, text, tokens):
+    """Rust orders the variants of an enum by their numbers."""
+    for item in items_of(path, text):
+        code = text[item.start : item.end]
+        if item.kind == "enum" and re.search(r"derive(_where)?\([^)]*\b(Partial)?Ord\b", code) and re.search(r"^\s*\w+ = ", code, re.M):
+            raise Stop(f"{path}:{line_of(text, item.start)}: an order of an enum with numbers: {item.name}")
 
 
 def left_out(package, path, text):
@@ -74,6 +169,9 @@ def without_laws(path, text):
     """Laws do nothing: they are called for their contracts."""
     for found in list(LAW.finditer(text)):
         text = text.replace(found[0], "")
+        for call in re.finditer(rf"^\s*{found[1]}\(([^;]*)\);\n", text, flags=re.M):
+            if not re.fullmatch(r"[\w\s.,:]*|(?:(?!&mut)&[\w\s.,:]*)*", call[1]):
+                raise Stop(f"{path}: an argument of a law that may do something: {call[0].strip()}")
         text, count = re.subn(rf"^\s*{found[1]}\([^;]*\);\n", "", text, flags=re.M)
         if not count or re.search(rf"\b{found[1]}\b", without_comments(text)):
             raise Stop(f"{path}: a law in a form that is not known: {found[1]}")
@@ -81,13 +179,23 @@ def without_laws(path, text):
 
 
 # A variant's text, or that of a struct, as thiserror takes it.
-ERROR_TEXT = re.compile(r'#\[error\((transparent|"(?:[^"\\]|\\.)*")\)\]\s*')
+ERROR_TEXT = re.compile(r'#\[error\((transparent|"\u00a7\d+\u00a7")\)\]\s*')
 # The packages of this repository know all variants.
 NON_EXHAUSTIVE = '#[cfg_attr(not(feature = "inner"), non_exhaustive)]\n'
 VARIANT = re.compile(r"([A-Z]\w*)\s*(\(([^()]*)\))?\s*,")
+# A variant of named fields, which its text may name.
+VARIANT_OF_FIELDS = re.compile(r"([A-Z]\w*)\s*\{(?P<fields>[^{}]*)\}\s*,")
 
 
-def with_errors(path, text):
+def error_text(path, name, said, texts, fields):
+    """The text of an error, in which the pattern of its fields may stand, and nothing else that `Display` reads."""
+    text = found_again(said[1], texts)
+    if re.search(r"[{}]", re.sub(fields, "", text)):
+        raise Stop(f"{path}: a text of {name} in a form that is not known: {text}")
+    return text
+
+
+def with_errors(path, text, texts):
     """Writes out what thiserror's derive makes: `Display`, by the texts, and `Error`."""
     if "thiserror::Error" not in text:
         return text
@@ -99,23 +207,32 @@ def with_errors(path, text):
         name = item.name
         if item.kind == "struct":
             said = ERROR_TEXT.search(body)
-            fields = re.findall(r"\{([a-z_]+)\}", said[1])
-            arms = f"let {name} {{ {', '.join(fields)}, .. }} = self; write!(f, {said[1]})"
+            words = error_text(path, name, said, texts, r"\{[a-z_]+\}")
+            fields = re.findall(r"\{([a-z_]+)\}", words)
+            arms = f"let {name} {{ {', '.join(fields)}, .. }} = self; write!(f, {words})"
         else:
             arms = "match self {"
             lines = re.sub(r"//[^\n]*", "", body)
             for said in ERROR_TEXT.finditer(lines):
+                variant = VARIANT_OF_FIELDS.match(lines, said.end())
+                if variant:
+                    fields = re.findall(r"(\w+):", variant["fields"])
+                    words = error_text(path, name, said, texts, rf"\{{(?:{'|'.join(fields)})\}}")
+                    named = [it for it in fields if f"{{{it}}}" in words]
+                    arms += f"{name}::{variant[1]} {{ {', '.join(named)}{', ' * bool(named)}.. }} => write!(f, {words}),"
+                    continue
                 variant = VARIANT.match(lines, said.end())
                 if not variant:
                     raise Stop(f"{path}: a variant of {name} in a form that is not known")
+                words = error_text(path, name, said, texts, r"\{0\}" if variant[2] else "$")
                 if said[1] == "transparent":
                     arms += f"{name}::{variant[1]}(error) => error.fmt(f),"
-                elif variant[2] and "{0}" in said[1]:
-                    arms += f"{name}::{variant[1]}(error) => write!(f, {said[1].replace('{0}', '{error}')}),"
+                elif variant[2] and "{0}" in words:
+                    arms += f"{name}::{variant[1]}(error) => write!(f, {words.replace('{0}', '{error}')}),"
                 elif variant[2]:
-                    arms += f"{name}::{variant[1]}(_) => f.write_str({said[1]}),"
+                    arms += f"{name}::{variant[1]}(_) => f.write_str({words}),"
                 else:
-                    arms += f"{name}::{variant[1]} => f.write_str({said[1]}),"
+                    arms += f"{name}::{variant[1]} => f.write_str({words}),"
             arms += "}"
             if lines.count("#[error(") != len(ERROR_TEXT.findall(lines)):
                 raise Stop(f"{path}: a text of {name} in a form that is not known")
@@ -142,7 +259,11 @@ def with_derives(path, text):
         names = [it.strip() for it in found[1].split(",") if it.strip() not in ("Drop", "Error")]
         return f"#[derive({', '.join(names)})]\n" if names else ""
 
-    text = re.sub(r"#\[derive_where\(skip\(EqHashOrd\)\)\]\n?", "", text)
+    skip = re.compile(r"#\[derive_where\(skip\(EqHashOrd\)\)\]\s*(\w+:)")
+    for found in skip.finditer(text):
+        if found[1] not in erasure.SKIPPED.get(path, ()):
+            raise Stop(f"{path}: a field that is not compared: {found[1]}")
+    text = skip.sub(r"\1", text)
     text = text.replace("#[derive_where(", "#[derive(")
     return re.sub(r"#\[derive\(([^)]*)\)\]\n", derived, text)
 
@@ -265,6 +386,7 @@ def with_examples(path, text):
         elif inside and path not in erasure.OTHER_EXAMPLES:
             for old, new in erasure.EXAMPLE_FORMS:
                 line = re.sub(old, new, line)
+            line = called_as_method(line)
             if re.fullmatch(r"\s*//[/!]\s*", line):
                 continue
         made.append(line)

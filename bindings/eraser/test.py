@@ -5,7 +5,7 @@ import subprocess
 import tempfile
 import unittest
 
-from . import erasure, exports, forms
+from . import erasure, exports, features, forms
 from .cut import without_ghosts
 from .tokens import Stop
 
@@ -55,15 +55,107 @@ class Stops(unittest.TestCase):
         with self.assertRaisesRegex(Stop, "there is no function two"):
             erased("fn one() {}\n")
 
-    def test_returns_in_constants(self):
-        erasure.CONST[PATH] = {"one"}
+    def constant(self):
+        erasure.CONST[PATH] = {"every function"}
         self.addCleanup(erasure.CONST.pop, PATH)
-        with self.assertRaisesRegex(Stop, "in one: types in a call"):
-            erased("fn one() -> Option<u8> {\n    Some(two::<u8>()?)\n}\n")
-        with self.assertRaisesRegex(Stop, "in one: a loop that continues"):
-            erased("fn one() {\n    for i in 0..2 { if i == 0 { continue; } }\n}\n")
-        with self.assertRaisesRegex(Stop, "in one: a piece of a slice"):
-            erased("fn one(a: &[u8]) -> &[u8] {\n    &a[1..3]\n}\n")
+
+    def test_functions_made_constant(self):
+        self.constant()
+        for body, said in (
+            ("Some(two::<u8>()?)", "types in a call"),
+            ("for i in 0..2 { if i == 0 { continue; } }", "a loop that continues: for i in 0..2 {"),
+            ("&a[1..3]", "a piece of a slice"),
+            # The index that the body binds again would be the one that is counted on.
+            ("for i in 0..3 { let mut i = i; i += 1; }", "a loop that binds or sets its index: for i in 0..3 {"),
+            ("for i in 0..3 { if let Some(i) = two { } }", "a loop that binds or sets its index"),
+            ("for i in 0..3 { for i in 0..2 { } }", "a loop that binds or sets its index"),
+            ("for i in 0..3 { two(&mut i); }", "a loop that binds or sets its index"),
+            ("for i in 0..3 { i += 1; }", "a loop that binds or sets its index"),
+            ("for i in 0..i_end { }", "a loop that has the name of its bound"),
+            ("'a: for i in 0..3 { break 'a; }", "a loop with a label"),
+        ):
+            with self.subTest(body), self.assertRaisesRegex(Stop, f"{PATH}: in one: {said}"):
+                erased(f"fn one(a: &[u8]) -> Option<u8> {{\n    {body}\n}}\n")
+
+    def test_what_brackets_mean_in_ghost_code(self):
+        # The head of the second function would be cut.
+        one = "fn one() -> u8\n    ensures { result \u2261 1 -- {\n    }\n{\n    1\n}\n\n"
+        self.stops(one + "fn two() -> u8\n    ensures { result \u2261 2 -- }\n    }\n{\n    2\n}\n", 2, "in a comment of ghost code")
+        self.stops('fn one() -> u8\n    ensures { result \u2261 1 -- "\n    }\n{\n    1\n}\n', 2, "in a comment of ghost code")
+        self.stops("fn one() -> u8\n    ensures { result \u2261 1 // {\n    }\n{\n    1 }\n}\n", 2, "in a comment of ghost code")
+        self.stops("fn one() -> u8\n    ensures { result \u2261 '{' }\n{\n    1\n}\n}\n", 2, "in a character")
+        self.stops("fn one() -> u8\n    ensures { result /* { */ }\n{\n    1\n}\n}\n", 2, "in a character or a comment")
+        # A bracket that is not closed takes code with it.
+        self.stops("fn one() -> u8\n    ensures { { result }\n{\n    1\n}\n}\n", 3, "goes on further to the left")
+
+    def test_what_is_not_read(self):
+        self.stops('fn one() {}\n/* " */\n', 2, "a comment in lines of code")
+        for text in ('r"a"', 'r#"a"#', 'br"a"', "r#one"):
+            self.stops(f"fn one() {{\n    let a = {text};\n}}\n", 2, "a raw text")
+
+    def test_sizes(self):
+        self.stops("static A: usize =\n    size_of::<(u8, u32, u8)>();\n", 2, "the size of what is not known")
+        self.stops("struct One(u8);\n\nstatic A: usize = size_of::<One>();\n", 3, "the size of One, which is not repr(C)")
+        self.stops("static A: usize = size_of::<Two>();\n", 1, "the size of Two, which is not repr(C)")
+        self.stops("use tz_zone::inner::ZoneData;\n\nstatic A: usize = size_of::<ZoneData<'static>>();\n", 3, "the size of ZoneData")
+        self.stops("fn one(a: &One) -> usize {\n    size_of_val(a)\n}\n", 2, "size_of_val")
+        erased("#[repr(C)]\nstruct One(u8);\n\nstatic A: usize = size_of::<One>() + size_of::<u8>();\n")
+
+    def test_ranges(self):
+        for body in ("(250u8..).take(9)", "two(a..)", "let b = a..;", "for i in 0.. {}"):
+            self.stops(f"fn one(a: u8) {{\n    {body}\n}}\n", 2, "a range without an end")
+        for body in ("..v[5]", "..two()", "..*two().a"):
+            self.stops(f"fn one() -> S {{\n    S {{ a: 1, {body} }}\n}}\n", 2, "fields of what is computed")
+        erased("fn one() {\n    let S { a, .. } = S { a: 1, ..*b.c };\n    let [d, .., e] = &f[2..];\n    let Some(g @ 1..) = h(..) else {};\n}\n")
+
+    def test_floats_and_orders(self):
+        for body in ("a.min(1.5)", "a as f64", "2e3", "1f32"):
+            self.stops(f"fn one() {{\n    {body}\n}}\n", 2, "a float")
+        erased("fn one() {\n    (a.0.min(0xf64), b.1)\n}\n")
+        self.stops("#[derive(PartialEq, PartialOrd)]\nenum One {\n    Two = 2,\n    Three = 1,\n}\n", 1, "an order of an enum with numbers: One")
+
+    def test_laws(self):
+        for argument in ("next(&mut x)", "&mut x", "x = 1", "x?"):
+            with self.assertRaisesRegex(Stop, f"{PATH}: an argument of a law that may do something: law"):
+                erased(f"use crate::laws::law;\n\nfn one() {{\n    law({argument});\n}}\n")
+        self.assertEqual(erased("use crate::laws::law;\n\nfn one() {\n    law(&x, y.z);\n}\n").split(), "fn one() { }".split())
+
+    def test_texts_of_errors(self):
+        for text in ("bad: {0:?}", "{{", "{{0}}", "{1}", "{}", "}"):
+            with self.assertRaisesRegex(Stop, f"{PATH}: a text of One in a form that is not known"):
+                erased(f'use thiserror::Error;\n\n#[derive(Error)]\nenum One {{\n    #[error("{text}")]\n    Two(u8),\n}}\n')
+        with self.assertRaisesRegex(Stop, "a text of One in a form that is not known"):
+            erased('use thiserror::Error;\n\n#[derive(Error)]\nenum One {\n    #[error("{0}")]\n    Two,\n}\n')
+        made = erased('use thiserror::Error;\n\n#[derive(Error)]\nenum One {\n    #[error("a // {0}, {0}")]\n    Two(u8),\n}\n')
+        self.assertIn('One::Two(error) => write!(f, "a // {error}, {error}")', made)
+        fields = 'use thiserror::Error;\n\n#[derive(Error)]\nenum One {\n    #[error("at {at}")]\n    Two { at: u8, of: u8 },\n}\n'
+        self.assertIn('One::Two { at, .. } => write!(f, "at {at}")', erased(fields))
+        with self.assertRaisesRegex(Stop, "a text of One in a form that is not known"):
+            erased(fields.replace("{at}", "{by}"))
+
+    def test_a_field_that_is_not_compared(self):
+        with self.assertRaisesRegex(Stop, f"{PATH}: a field that is not compared: b:"):
+            erased("struct One {\n    a: u8,\n    #[derive_where(skip(EqHashOrd))]\n    b: u8,\n}\n")
+
+
+class Texts(unittest.TestCase):
+    """What looks like code in a text or a comment stays."""
+
+    def test_texts(self):
+        erasure.CONST[PATH] = {"every function"}
+        self.addCleanup(erasure.CONST.pop, PATH)
+        for text in (
+            "a + Drop b", "std::io", "i64::try_from(a)", "\n#[derive(Drop)]\n", "a  \n  b", "<T: Drop>", "fn fmt<W: fmt::Write>(", "crate::one",
+            "\nuse std::str;\n", "for i in 0..2 {", "&mut V", "requires x { y }", "ghost a = {", "a // b", "(a)?", '\\"#[error(1)]\\"',
+        ):
+            with self.subTest(text):
+                self.assertIn(f'"{text}"', erased(f'fn one() {{\n    two("{text}");\n}}\n'))
+
+    def test_comments(self):
+        erasure.CONST[PATH] = {"every function"}
+        self.addCleanup(erasure.CONST.pop, PATH)
+        text = "fn one() {\n    // for i in 0..n { a?; std::io + Drop }\n    two();\n}\n"
+        self.assertEqual(erased(text), f"const {text}")
 
 
 class Cuts(unittest.TestCase):
@@ -91,12 +183,28 @@ class Cuts(unittest.TestCase):
             "fn one(a: u8, b: &[u8]) -> Option<i64> {\n    let mut sum = i64::from(a).max(2);\n"
             "    for i in 0..a {\n        sum += two(&b[..3])?;\n    }\n    Some(-i64::from(a + 1) + sum)\n}\n"
         )
+        # The bound is read once, and the index is none of the function's names.
         wanted = (
             "const fn one(a: u8, b: &[u8]) -> Option<i64> { let mut sum = crate::shim::greatest!((a as i64), 2);"
-            " let mut i = 0; while i < a { sum += match two(b.split_at(3).0) { Some(value) => value, None => return None }; i += 1; }"
+            " { let mut i = 0; let i_end = a; while i < i_end { sum += match two(b.split_at(3).0) { Some(value) => value, None => return None };"
+            " i += 1; } }"
             " Some(-((a + 1) as i64) + sum) }"
         )
         self.assertEqual("".join(made.split()), "".join(wanted.split()))
+
+    def test_signs_before_casts(self):
+        erasure.CONST[PATH] = {"every function"}
+        self.addCleanup(erasure.CONST.pop, PATH)
+        for source, made in (
+            ("return -i64::from(x);", "return -(x as i64);"),
+            ("if -i64::from(x) > 0 {}", "if -(x as i64) > 0 {}"),
+            ("match -i64::from(x) {}", "match -(x as i64) {}"),
+            ("if a {}\n-i64::from(x)", "if a {}\n-(x as i64)"),
+            ("a - i64::from(-x)", "a - (-x) as i64"),
+        ):
+            with self.subTest(source):
+                made = f"const fn one() -> i64 {{ {made} }}"
+                self.assertEqual(erased(f"fn one() -> i64 {{ {source} }}"), made)
 
     def test_an_import_of_the_counting_view(self):
         made = erased("use crate::one::Counted;\nuse crate::two::{Counted, Uncounted};\n")
@@ -112,8 +220,8 @@ class Exports(unittest.TestCase):
         wanted = "pub struct Two<'a> {\n    pub one: &'a [u8],\n    pub three: i32,\n}\n"
         self.assertEqual(wanted, exports.with_open_fields(text, ("Two",)))
 
-    def both(self, given, imports="use tz_zone::{Global, ZoneData};\n"):
-        text = f'{imports}\n/// Docs.\n#[unsafe(no_mangle)]\npub extern "C" fn two({given}) -> u32 {{\n    3\n}}\n'
+    def both(self, given, answer="u32", imports="use tz_zone::{Global, ZoneData};\n"):
+        text = f'{imports}\n/// Docs.\n#[unsafe(no_mangle)]\npub extern "C" fn two({given}) -> {answer} {{\n    3\n}}\n'
         own = exports.without_exports(PATH, text)
         return own, exports.exported([(PATH, "crate::one", text)])
 
@@ -122,22 +230,89 @@ class Exports(unittest.TestCase):
         self.assertIn("/// Docs.\n#[inline(always)]\npub fn two(a: Global, b: &[i64], c:", own)
         self.assertIn("use crate::{one};", made)
         self.assertIn(
-            'pub unsafe extern "C" fn two(b: *const i64, b_length: usize, c: &Zone, d: *mut u8, d_length: usize, e: i8, f: &mut usize) -> u32',
+            'pub unsafe extern "C" fn two(b: *const i64, b_length: usize, c: *const Zone, d: *mut u8, d_length: usize, e: i8, f: *mut usize) -> u32',
             made,
         )
-        self.assertIn("let (b, c, d) = unsafe { (list(b, b_length), c.data(), list_mut(d, d_length)) };", made)
-        self.assertIn("one::two(Global, b, &c, d, e, f)", made)
+        values = "(list(b, b_length), one(c).data(), list_mut(d, d_length), Out::new(f))"
+        self.assertIn(f"let (b, c, d, mut f) = unsafe {{ {values} }};", made)
+        self.assertIn("let answer = one::two(Global, b, &c, d, e, &mut f.value);", made)
+        self.assertIn("unsafe { f.write(answer) };\n    answer\n}", made)
 
-    def test_values_alone(self):
-        _, made = self.both("a: bool, b: &mut u64")
-        self.assertIn('#[unsafe(no_mangle)]\npub extern "C" fn two(a: bool, b: &mut u64) -> u32 {\n    one::two(a, b)\n}', made)
+    def test_structs_of_slices(self):
+        text = "use tz_zone::{One, OffsetsData};\n\npub struct PartsData<'a> {\n    pub one: &'a [One],\n    pub two: OffsetsData,\n}\n"
+        self.addCleanup(erasure.OPEN_FIELDS.pop, PATH)
+        erasure.OPEN_FIELDS[PATH] = ("PartsData",)
+        made = exports.exported([(PATH, "crate::one", text)])
+        self.assertIn("pub struct Parts {\n    one: *const One,\n    one_length: usize,\n    two: OffsetsData\n}", made)
+        self.assertIn("unsafe { PartsData { one: list(self.one, self.one_length), two: self.two } }", made)
+        self.assertIn("let (one, one_length) = lent(data.one);\n        let two = data.two;\n        Parts { one, one_length, two }", made)
+        with self.assertRaisesRegex(Stop, "PartsData has what is not known to cross: pub one: Option<u8>"):
+            exports.exported([(PATH, "crate::one", text.replace("&'a [One]", "Option<u8>"))])
+
+    def test_single_values(self):
+        _, made = self.both("a: bool")
+        self.assertIn('#[unsafe(no_mangle)]\npub extern "C" fn two(a: bool) -> u32 {\n    one::two(a)\n}', made)
+        _, made = self.both("a: &u64")
+        self.assertIn("let a = unsafe { one(a) };\n    one::two(a)\n}", made)
+        _, made = self.both("a: &u64, b: &mut u8, c: &mut u64")
+        self.assertIn("let (a, mut b, mut c) = unsafe { (one(a), Out::new(b), Out::new(c)) };", made)
+        self.assertIn("let answer = one::two(a, &mut b.value, &mut c.value);", made)
+        self.assertIn("unsafe { b.write(answer); c.write(answer) };\n    answer\n}", made)
 
     def test_stops(self):
         for given in ("a: Two", "a: &Option<u8>", "a: &mut ZoneData<'_>", "a: ZoneData<'_>", "a: *const u8", "a: &[ZoneData<'_>]"):
             with self.assertRaisesRegex(Stop, "two takes what is not known to cross"):
                 self.both(given)
+        with self.assertRaisesRegex(Stop, "two writes to a value, and answers no code: -> u8"):
+            self.both("a: &mut u64", "u8")
         with self.assertRaisesRegex(Stop, "an export in a form that is not known"):
             exports.without_exports(PATH, 'extern "C" fn two() {}')
+
+
+class Methods(unittest.TestCase):
+    """A function that is a method of another crate's type."""
+
+    def made(self, text, **methods):
+        erasure.METHODS[PATH] = {name.replace("__", "::"): method for name, method in methods.items()}
+        self.addCleanup(erasure.METHODS.pop, PATH, None)
+        return " ".join(erased(text).split())
+
+    def test_the_method_has_the_docs(self):
+        made = self.made(
+            "/// Docs.\n#[inline]\npub const fn one(zone: &Zone<'_>, at: i64) -> Option<i64>\n    ensures { x }\n{\n    Some(at)\n}\n", one="Zone::two"
+        )
+        wanted = (
+            "#[inline] pub const fn one(zone: &Zone<'_>, at: i64) -> Option<i64> { Some(at) }"
+            " impl Zone<'_> { /// Docs. #[inline] pub const fn two(&self, at: i64) -> Option<i64> { one(self, at) } }"
+        )
+        self.assertEqual(wanted, made)
+
+    def test_associated_functions(self):
+        made = self.made("impl Date {\n    /// Docs.\n    pub fn of(from: &Time) -> Self {\n        Date {}\n    }\n}\n", Date__of="Time::date")
+        self.assertIn("impl Date { #[doc(hidden)] pub fn of(from: &Time)", made)
+        self.assertIn("impl Time { /// Docs. pub fn date(&self) -> Date { Date::of(self) } }", made)
+        made = self.made("pub fn read(text: &str) -> Time {\n    Time {}\n}\n", read="Time::read")
+        self.assertIn("impl Time { pub fn read(text: &str) -> Time { read(text) } }", made)
+
+    def test_lifetimes_and_names(self):
+        made = self.made("pub fn one<'a, 'b>(zone: Zone<'a>, one: &'b str) -> Two<'a, 'b> {\n    Two {}\n}\n", one="Zone::one")
+        self.assertIn("impl<'a> Zone<'a> { pub fn one<'b>(self, one: &'b str) -> Two<'a, 'b> { self::one(self, one) } }", made)
+        made = self.made("pub fn one<'a>(time: &'a Time, by: &'a [u8]) -> Two<'a> {\n    Two {}\n}\n", one="Time::one")
+        self.assertIn("impl Time { pub fn one<'a>(&'a self, by: &'a [u8]) -> Two<'a> { one(self, by) } }", made)
+
+    def test_examples(self):
+        made = self.made(
+            "/// ```rust\n/// assert_eq!(one(&zone, Date::new(2018, 11, 4)?)?, one(&this.zone.lent(), two)?);\n/// one(&zone)\n/// ```\n"
+            "pub fn one(zone: &Zone<'_>) {}\n",
+            one="Zone::one",
+        )
+        self.assertIn("/// assert_eq!(zone.one(Date::new(2018, 11, 4)?)?, this.zone.lent().one(two)?); /// zone.one()", made)
+
+    def test_stops(self):
+        with self.assertRaisesRegex(Stop, f"{PATH}:1: a method in a form that is not known: one"):
+            self.made("fn one(zone: &Zone<'_>) {}\n", one="Zone::one")
+        with self.assertRaisesRegex(Stop, "there is no function two"):
+            self.made("pub fn one(zone: &Zone<'_>) {}\n", two="Zone::two")
 
 
 class Packages(unittest.TestCase):
@@ -159,6 +334,39 @@ class Packages(unittest.TestCase):
         made = self.made('use thiserror::Error;\n\n#[derive(Drop, Error)]\nenum One {\n    #[error("two")]\n    Two,\n}\n')
         self.assertIn('One::Two => f.write_str("two")', made)
         self.assertNotIn("non_exhaustive", made)
+
+
+class Features(unittest.TestCase):
+    """What needs a vector or a file says so."""
+
+    def made(self, **sources):
+        texts = {f"crates/tz_base/src/{name}.rt": text for name, text in sources.items()}
+        return {path.split("/")[-1][:-3]: text for path, text in features.with_features(texts)}
+
+    def test_items(self):
+        made = self.made(
+            one="use crate::shim::{Vec, two};\n\npub struct Three(Vec<u8>);\n\n/// Docs.\n#[inline]\npub fn four() -> u8 {\n    five.Vec()\n}\n",
+            two="use crate::one::{Three, four};\n\nimpl Six for Three {\n    fn seven() {}\n}\n\nimpl Eight {\n    fn nine(a: &Three) {}\n\n    fn ten() {}\n}\n",
+            three="use super::two::eleven;\n\nenum Errors {\n    Three(u8),\n    Vec(u8),\n}\n\nfn twelve() { Errors::Three(1) }\n\nfn file<R: Files>() {}\n",
+        )
+        alloc, std = (features.attribute(it) for it in ("alloc", "std"))
+        self.assertIn(f"use crate::shim::{{two}};\n{alloc}use crate::shim::{{Vec}};", made["one"])
+        self.assertIn(f"\n{alloc}pub struct Three", made["one"])
+        self.assertIn("/// Docs.\n#[inline]\npub fn four", made["one"])
+        self.assertIn(f"use crate::one::{{four}};\n{alloc}use crate::one::{{Three}};", made["two"])
+        self.assertIn(f"\n{alloc}impl Six for Three {{\n    fn seven() {{}}", made["two"])
+        self.assertIn(f"impl Eight {{\n    {alloc}fn nine(a: &Three) {{}}\n\n    fn ten() {{}}\n}}", made["two"])
+        self.assertEqual(made["three"].count("#["), 1)
+        self.assertIn(f"\n{std}fn file", made["three"])
+
+    def test_variants(self):
+        variants, arms = "    Io(anyhow::Error),\n    Tz(u8),\n", "        Error::Io(it) => 1,\n        Error::Tz(it) => 2,\n"
+        text = f"pub enum Error {{\n{variants}}}\n\nfn one(error: Error) {{\n    match error {{\n{arms}    }}\n}}\n"
+        alloc = features.attribute("alloc")
+        wanted = text.replace("    Io(", f"{alloc}    Io(").replace("Error::Io(", f"{alloc}Error::Io(")
+        self.assertEqual(self.made(error=text)["error"], wanted)
+        with self.assertRaisesRegex(Stop, "Error::Io stands 0 times"):
+            self.made(error="fn one() {}\n")
 
 
 class Checks(unittest.TestCase):

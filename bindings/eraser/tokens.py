@@ -30,7 +30,14 @@ def line_of(text, at):
     return text.count("\n", 0, at) + 1
 
 
+# What may hold brackets, marks and ghost words that mean nothing.
+UNREAD = (("/*", "a comment in lines of code"), ('r"', "a raw text"), ("r#", "a raw text or name"), ('br"', "a raw text"), ("br#", "a raw text"))
+
+
 def token_at(path, text, at):
+    for opening, what in UNREAD:
+        if text.startswith(opening, at):
+            raise Stop(f"{path}:{line_of(text, at)}: {what}")
     for kind, pattern in KINDS:
         found = pattern.match(text, at)
         if found:
@@ -50,6 +57,30 @@ def tokens_of(path, text, comments=False):
         if comments or token.kind != "comment":
             made.append(token)
         at = token.end
+
+
+SIGN = re.compile("\u00a7([0-9]+)\u00a7")
+COMMENT = re.compile(r"//[/!]?")
+
+
+def hidden(path, text):
+    """The text with a sign in place of what stands in each text and comment, so that a pattern finds code alone; and what stood there."""
+    edits, kept = [], []
+    for token in tokens_of(path, text, comments=True):
+        if token.kind == "string" and token.text != '"C"':
+            start, end = token.start + token.text.index('"') + 1, token.end - 1
+        elif token.kind == "comment":
+            start, end = token.start + COMMENT.match(token.text).end(), token.end
+        else:
+            continue
+        edits.append((start, end, f"\u00a7{len(kept)}\u00a7"))
+        kept.append(text[start:end])
+    return edited(text, edits), kept
+
+
+def found_again(text, kept):
+    """The text with what was hidden."""
+    return SIGN.sub(lambda it: kept[int(it[1])], text)
 
 
 OPEN = {"(": ")", "[": "]", "{": "}"}

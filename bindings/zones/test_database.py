@@ -1,14 +1,19 @@
 #!/usr/bin/env python3
 """Tests of database.py: days beside datetime, rules beside the C library, and what is kept of
-tables beside a comparison of clocks."""
+tables beside a comparison of clocks; and of what `generate --check` says of another database."""
 import datetime
 import os
+import pathlib
 import random
 import struct
+import subprocess
+import sys
+import tempfile
 import time
 import unittest
 
-from database import DAY, JulianDay, Refused, Rule, Type, WeekDay, YearDay, kept, read_zone
+from database import (DAY, JulianDay, Refused, Rule, Type, WeekDay, YearDay, kept, read_version,
+                      read_zone, read_zones)
 
 EPOCH = datetime.date(1970, 1, 1)
 UTC = datetime.timezone.utc
@@ -185,6 +190,54 @@ class Files(unittest.TestCase):
         for length in range(len(whole)):
             with self.assertRaises((Refused, struct.error, ValueError)):
                 read_zone(whole[:length])
+
+    def test_a_folder_says_its_version(self):
+        with tempfile.TemporaryDirectory() as name:
+            folder = pathlib.Path(name)
+            with self.assertRaises(Refused):
+                read_version(folder)
+            (folder / 'tzdata.zi').write_text('# version 2031c\n# redo posix_only\n')
+            self.assertEqual(read_version(folder), '2031c')
+            (folder / '+VERSION').write_text('2031d\n')
+            self.assertEqual(read_version(folder), '2031d')
+            (folder / '+VERSION').unlink()
+            (folder / 'tzdata.zi').write_text('R A 1981 o - Mar 29 1u 1 S\n')
+            with self.assertRaises(Refused):
+                read_version(folder)
+
+    def test_a_folder_without_zones_is_refused(self):
+        with tempfile.TemporaryDirectory() as name:
+            folder = pathlib.Path(name)
+            (folder / 'leapseconds').write_text('# none\n')
+            with self.assertRaisesRegex(Refused, 'has no TZif files'):
+                read_zones(folder)
+            (folder / 'Europe').mkdir()
+            (folder / 'Europe/Paris').write_bytes(file_of('CET-1CEST,M3.5.0,M10.5.0/3', [0]))
+            self.assertEqual(list(read_zones(folder)), ['Europe/Paris'])
+
+
+class Generate(unittest.TestCase):
+    def generate(self, *arguments):
+        program = pathlib.Path(__file__).resolve().with_name('generate')
+        return subprocess.run([sys.executable, '-B', program, *arguments], capture_output=True,
+                              text=True)
+
+    def test_files_that_a_database_does_not_give_are_named(self):
+        with tempfile.TemporaryDirectory() as folder:
+            (pathlib.Path(folder) / '+VERSION').write_text('2001a\n')
+            (pathlib.Path(folder) / 'Zone').write_bytes(file_of('UTC0', [0]))
+            found = self.generate('--check', folder)
+        self.assertEqual(found.returncode, 1)
+        self.assertIn('version 2001a: 1 names, 1 zones, ', found.stdout)
+        self.assertIn('src/zones/names.rs is not what this database gives\n', found.stderr)
+
+    def test_bad_arguments_and_folders_are_refused(self):
+        with tempfile.TemporaryDirectory() as folder:
+            for arguments in (['--chek'], ['--check', folder, folder], [folder, '-x']):
+                self.assertEqual(self.generate(*arguments).returncode, 2)
+            found = self.generate('--check', folder)
+        self.assertEqual(found.returncode, 1)
+        self.assertRegex(found.stderr, '^generate: .* has neither ')
 
 
 if __name__ == '__main__':

@@ -1,6 +1,8 @@
 //! Errors.
 
-pub use crate::proved::tz_base::error::{Error, ReadFault, TzError, datetime, parse, timezone};
+#[cfg(feature = "alloc")]
+pub use crate::proved::tz_base::error::ReadFault;
+pub use crate::proved::tz_base::error::{Error, TzError, datetime, parse, timezone};
 pub use crate::shim::alloc::AllocError;
 
 use core::error;

@@ -3,15 +3,19 @@
 #![cfg_attr(not(feature = "std"), no_std)]
 #![doc = include_str!("../README.md")]
 
-// Where the proofs know it, docs/WIDTHS.md says.
-#[cfg(not(target_pointer_width = "64"))]
-compile_error!("the proofs of this crate are for a `usize` of 64 bits: docs/WIDTHS.md lists where");
+// The proofs are for 64 bits. docs/WIDTHS.md argues that 32 do as well.
+#[cfg(not(any(target_pointer_width = "64", target_pointer_width = "32")))]
+compile_error!("a `usize` must have 64 bits, or 32: docs/WIDTHS.md says why");
 
 #[cfg(feature = "alloc")]
 extern crate alloc;
+#[cfg(test)]
+extern crate std;
 
+pub mod calendar;
 pub mod datetime;
 pub mod error;
+pub mod format;
 pub mod timezone;
 
 #[cfg(doctest)]
@@ -43,6 +47,7 @@ pub mod shim;
 pub use datetime::{DateTime, UtcDateTime};
 pub use error::{Error, TzError};
 pub use proved::tz::{DateTimePart, ParseDateTimeError, ParsedDateTime, TzString};
+pub use proved::tz_civil::{Date, WeekDate};
 pub use timezone::{Change, ChangesAfter, ChangesBefore, LocalTimeType, Segment, TimeZoneRef};
 #[cfg(feature = "alloc")]
 pub use timezone::{TimeZone, TimeZoneSettings};

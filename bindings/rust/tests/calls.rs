@@ -1,7 +1,11 @@
 //! What calls return, and which of them panic.
+#![cfg(feature = "alloc")]
 
+mod settings;
+
+use settings::zone_of;
 use std::sync::Mutex;
-use std::time::{Duration, SystemTime};
+use std::time::Duration;
 use tz::datetime::{Disambiguation, FoundDateTimeKind, FoundDateTimeListRefMut};
 use tz::error::timezone::TimeZoneError;
 use tz::timezone::{AlternateTime, LeapSecond, Transition, TransitionRule};
@@ -15,7 +19,7 @@ const FORWARD: i64 = 954_032_400;
 const BACK: i64 = 972_781_200;
 
 fn central_europe() -> TimeZone {
-    TimeZone::from_posix_tz("CET-1CEST,M3.5.0,M10.5.0/3").unwrap()
+    zone_of("CET-1CEST,M3.5.0,M10.5.0/3").unwrap()
 }
 
 #[test]
@@ -337,32 +341,6 @@ fn settings_ask_for_files_in_order() {
     );
     assert_eq!(asked("").1, Vec::<String>::new());
     assert!(matches!(settings.parse_local(), Err(Error::Io(_))));
-}
-
-#[test]
-fn times_of_the_system_convert() {
-    let half = Duration::from_nanos(1_500_000_000);
-    for time in [SystemTime::UNIX_EPOCH + half, SystemTime::UNIX_EPOCH - half] {
-        let utc = UtcDateTime::try_from(time).unwrap();
-        assert_eq!(SystemTime::from(utc), time);
-        let date_time = utc.project(TimeZoneRef::utc()).unwrap();
-        assert_eq!(SystemTime::from(date_time), time);
-    }
-    let before = SystemTime::now();
-    let now = UtcDateTime::now().unwrap();
-    assert!(before <= SystemTime::from(now) && SystemTime::from(now) <= SystemTime::now());
-    assert!(
-        DateTime::now(TimeZoneRef::utc())
-            .unwrap()
-            .project(TimeZoneRef::utc())
-            .unwrap()
-            .unix_time()
-            >= now.unix_time()
-    );
-    assert_eq!(
-        TimeZone::utc().find_current_local_time_type().unwrap(),
-        &LocalTimeType::utc()
-    );
 }
 
 #[test]

@@ -1,5 +1,9 @@
 //! Calls over whole columns answer each place as the call for one value does.
+#![cfg(feature = "alloc")]
 
+mod settings;
+
+use settings::zone_of;
 use tz::datetime::Disambiguation;
 use tz::error::ColumnError;
 use tz::timezone::{Transition, TransitionRule};
@@ -7,7 +11,7 @@ use tz::{DateTime, LocalTimeType, TimeZone, TimeZoneRef, TzError, UtcDateTime};
 
 /// Standard time until 2000, and then the rule of central Europe.
 fn zone() -> TimeZone {
-    let rule = TimeZone::from_posix_tz("CET-1CEST,M3.5.0,M10.5.0/3").unwrap();
+    let rule = zone_of("CET-1CEST,M3.5.0,M10.5.0/3").unwrap();
     let rule = *rule.as_ref().extra_rule();
     let Some(TransitionRule::Alternate(alternate)) = rule else {
         panic!("no alternate rule")

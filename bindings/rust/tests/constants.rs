@@ -1,11 +1,13 @@
 //! Every `const fn` of tz-rs, and of this crate, in a constant.
 
 use std::time::Duration;
+use tz::calendar::{days_in_month, is_leap_year};
+use tz::format::{FormattedDateTime, FormattedUtcDateTime, Pattern, UtcPattern};
 use tz::timezone::{
     AlternateTime, Julian0WithLeap, Julian1WithoutLeap, LeapSecond, MonthWeekDay, RuleDay,
     Transition, TransitionRule,
 };
-use tz::{Change, DateTime, LocalTimeType, Segment, TimeZoneRef, UtcDateTime};
+use tz::{Change, Date, DateTime, LocalTimeType, Segment, TimeZoneRef, UtcDateTime, WeekDate};
 
 /// A result's value, in a constant.
 macro_rules! made {
@@ -162,6 +164,62 @@ const CONFLICT: Option<(i32, i32, i32)> = AlternateTime::conflict(
     RuleDay::Julian0WithLeap(made!(Julian0WithLeap::new(59))),
     64_800,
 );
+
+// Dates.
+const DATE: Date = made!(Date::new(2001, 9, 9));
+const LATER_DATES: (Option<Date>, Option<Date>, Option<Date>) = (
+    DATE.checked_add_days(1),
+    DATE.checked_add_months(1),
+    DATE.next_week_day(1),
+);
+const FOURTH_THURSDAY: Date = there!(Date::nth_week_day(2025, 11, 4, 4));
+const WEEK_DATE: WeekDate = there!(DATE.week_date());
+const OF_WEEK_DATE: Option<Date> = Date::from_week_date(WEEK_DATE);
+const DATE_PARTS: (i32, u8, u8, i64, u8) = (
+    DATE.year(),
+    DATE.month(),
+    DATE.month_day(),
+    DATE.day_number(),
+    DATE.week_day(),
+);
+const LAST_OF_MONTH: Date = DATE.last_of_month();
+const DAYS_SINCE: i64 = LAST_OF_MONTH.days_since(DATE);
+const OF_NUMBER: Option<Date> = Date::from_day_number(DATE.day_number());
+const NOON: UtcDateTime = made!(DATE.at(12, 0, 0, 0));
+const DATES_OF: (Date, Date) = (NOON.date(), SHOWN.date());
+const START_OF_DAY: DateTime = there!(made!(ZONE.start_of_day(DATE)));
+const CALENDAR: (bool, Option<u8>) = (is_leap_year(2000), days_in_month(2000, 2));
+
+// Patterns.
+const PATTERN: Pattern<'static> = made!(Pattern::new("%e %B %Y, %R %Z"));
+const PATTERN_PARTS: (&str, usize) = (PATTERN.as_str(), PATTERN.max_len());
+const UTC_PATTERN: UtcPattern<'static> = UtcPattern::new(PATTERN);
+const PRINTED: FormattedDateTime<'static> = UTC_PATTERN.pattern().format(&IN_ZONE);
+const PRINTED_IN_UTC: FormattedUtcDateTime<'static> = UTC_PATTERN.format(&MOON);
+
+#[test]
+fn patterns_have_the_values_that_calls_have() {
+    // 2, 9 for September, 11 for the first years, 5, 10 for an offset, and 5 characters.
+    assert_eq!(PATTERN_PARTS, ("%e %B %Y, %R %Z", 42));
+    assert_eq!(PRINTED.to_string(), " 9 September 2001, 03:46 CEST");
+    assert_eq!(PRINTED_IN_UTC.to_string(), "20 July 1969, 20:17 UTC");
+}
+
+#[test]
+fn dates_have_the_values_that_calls_have() {
+    let later = Date::new(2001, 9, 10).ok();
+    assert_eq!(LATER_DATES, (later, Date::new(2001, 10, 9).ok(), later));
+    assert_eq!(FOURTH_THURSDAY.to_string(), "2025-11-27");
+    assert_eq!((WEEK_DATE.week, OF_WEEK_DATE), (36, Some(DATE)));
+    assert_eq!(DATE_PARTS, (2001, 9, 9, 11_574, 0));
+    assert_eq!((DAYS_SINCE, OF_NUMBER), (21, Some(DATE)));
+    assert_eq!(DATES_OF, (DATE, DATE));
+    assert_eq!(
+        START_OF_DAY.to_string(),
+        "2001-09-09T00:00:00.000000000+02:00"
+    );
+    assert_eq!(CALENDAR, (true, Some(29)));
+}
 
 #[test]
 fn constants_have_the_values_that_calls_have() {

@@ -1,5 +1,5 @@
 //! Every public item of tz-rs 0.7.3 by its name and its signature, an item a line: where one is missing or another, this does not compile.
-
+#![cfg(feature = "std")]
 // Whole types are what is compared.
 #![allow(clippy::type_complexity)]
 
@@ -35,7 +35,10 @@ macro_rules! consts {
 }
 
 type Read = fn(&str) -> Result<Vec<u8>, Box<dyn StdError + Send + Sync + 'static>>;
+// rustc 1.85 does not see that they are used.
+#[allow(dead_code)]
 type Seven<T> = fn(i32, u8, u8, u8, u8, u8, u32) -> T;
+#[allow(dead_code)]
 type SevenWith<A, T> = fn(i32, u8, u8, u8, u8, u8, u32, A) -> T;
 
 // The crate's root and its modules.

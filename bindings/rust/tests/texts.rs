@@ -1,8 +1,12 @@
 //! What `Debug` and `Display` print.
+#![cfg(feature = "alloc")]
 
+mod settings;
+
+use settings::zone_of;
 use tz::datetime::{FoundDateTimeKind, FoundDateTimeListRefMut};
 use tz::timezone::{LeapSecond, Transition, TransitionRule};
-use tz::{DateTime, LocalTimeType, TimeZone, TimeZoneRef, TimeZoneSettings, UtcDateTime};
+use tz::{DateTime, LocalTimeType, TimeZone, TimeZoneRef, UtcDateTime};
 
 const NEW_YORK: &str = "EST5EDT,M3.2.0,M11.1.0";
 
@@ -13,7 +17,7 @@ macro_rules! prints {
 
 #[test]
 fn values_print_their_parts() {
-    let zone = TimeZone::from_posix_tz(NEW_YORK).unwrap();
+    let zone = zone_of(NEW_YORK).unwrap();
     let zone = zone.as_ref();
     let date_time = DateTime::from_timespec(954_032_400, 5, zone).unwrap();
     let utc = UtcDateTime::from_timespec(954_032_400, 5).unwrap();
@@ -47,17 +51,18 @@ fn values_print_their_parts() {
         format!("{:#?}", Transition::new(-1, 2)),
         "Transition {\n    unix_leap_time: -1,\n    local_time_type_index: 2,\n}"
     );
-    assert!(format!("{:?}", TimeZoneSettings::DEFAULT).starts_with("TimeZoneSettings { directories: [\"/usr/share/zoneinfo\", \"/share/zoneinfo\", \"/etc/zoneinfo\"], read_file_fn: 0x"));
+    #[cfg(feature = "std")]
+    assert!(format!("{:?}", tz::TimeZoneSettings::DEFAULT).starts_with("TimeZoneSettings { directories: [\"/usr/share/zoneinfo\", \"/share/zoneinfo\", \"/etc/zoneinfo\"], read_file_fn: 0x"));
 }
 
 #[test]
 fn days_of_the_year_print_their_numbers() {
-    let zone = TimeZone::from_posix_tz("A1B,J60/0,59/-0").map(|_| ());
+    let zone = zone_of("A1B,J60/0,59/-0").map(|_| ());
     assert_eq!(
         format!("{zone:?}"),
         "Err(Tz(TzString(ParseInt(ParseIntError { kind: Empty }))))"
     );
-    let zone = TimeZone::from_posix_tz("AAA1BBB,J60/0,300/0").unwrap();
+    let zone = zone_of("AAA1BBB,J60/0,300/0").unwrap();
     let Some(TransitionRule::Alternate(rule)) = zone.as_ref().extra_rule() else {
         panic!("no alternate rule")
     };
@@ -115,7 +120,7 @@ fn date_times_print_as_iso_8601() {
 
 #[test]
 fn errors_say_what_is_wrong() {
-    let text_of = |setting: &str| TimeZone::from_posix_tz(setting).unwrap_err().to_string();
+    let text_of = |setting: &str| zone_of(setting).unwrap_err().to_string();
     assert_eq!(text_of(""), "invalid TZ string: empty TZ string");
     assert_eq!(
         text_of("Nowhere/Atlantis"),

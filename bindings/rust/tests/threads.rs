@@ -1,11 +1,16 @@
-//! One zone shared by eight threads, which look up a million instants each.
+//! One zone shared by eight threads, which look up a million instants each, or `TZ_LOOKUPS` of them.
+#![cfg(feature = "std")]
 
-use std::thread;
+use std::{env, thread};
 use tz::timezone::{Transition, TransitionRule};
 use tz::{DateTime, LocalTimeType, TimeZone};
 
 const THREADS: i64 = 8;
-const LOOKUPS: i64 = 1_000_000;
+
+/// How many each thread looks up. An emulator takes long for a million.
+fn lookups() -> i64 {
+    env::var("TZ_LOOKUPS").map_or(1_000_000, |text| text.parse().unwrap())
+}
 
 /// Standard time and daylight saving time in turn, each for half a year of 365 days from 1900 on, and then a rule.
 fn zone() -> TimeZone {
@@ -28,9 +33,10 @@ fn zone() -> TimeZone {
 
 /// The sum of the offsets, and of every thousandth local time's hours, at a thread's instants from 1890 to 2090.
 fn sum(zone: &TimeZone, thread: i64) -> i64 {
-    let mut sum = 0;
-    for number in 0..LOOKUPS {
-        let unix_time = -2_524_608_000 + (number * THREADS + thread) * 789;
+    let (mut sum, lookups) = (0, lookups());
+    let step = 6_312_000_000 / (lookups * THREADS);
+    for number in 0..lookups {
+        let unix_time = -2_524_608_000 + (number * THREADS + thread) * step;
         let local_time_type: &LocalTimeType = zone.find_local_time_type(unix_time).unwrap();
         sum += i64::from(local_time_type.ut_offset());
         if number % 1000 == 0 {

@@ -1,4 +1,5 @@
 //! The traits that tz-rs's types have, and where errors and times come from.
+#![cfg(feature = "std")]
 
 use std::error::Error as StdError;
 use std::fmt::{Debug, Display};

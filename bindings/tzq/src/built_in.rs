@@ -1,9 +1,9 @@
 //! Names of the tz database of which the machine has no file, and the usage, which says that they
 //! are known.
 
-use crate::proved::tz_query::query;
-use std::fmt::Display;
-use std::io::{Read, Write};
+use crate::proved::tz_query::query::RunFault;
+use crate::proved::tz_query::query::program::{fail, line_of};
+use std::io::Write;
 use tz::TimeZoneRef;
 use tz::proved::tz::error::{Error, ReadFault};
 use tz::proved::tz::timezone::TimeZone;
@@ -24,25 +24,6 @@ pub fn zone_without_file(
     }
 }
 
-/// Prints a fault, if it can be printed, and returns the program's status.
-fn status_of(fault: impl Display, err: &mut impl Write) -> u8 {
-    let _ = writeln!(err, "tzq: {fault}");
-    1
-}
-
-/// Answers the lines of the input over the zone, and returns the program's status.
-pub fn answer_lines(
-    zone: TimeZoneRef<'_>,
-    input: &mut impl Read,
-    out: &mut impl Write,
-    err: &mut impl Write,
-) -> u8 {
-    match query::run(Global, zone, input, out) {
-        Ok(()) => 0,
-        Err(fault) => status_of(fault, err),
-    }
-}
-
 /// Prints how the program is called, and returns its status.
 pub fn print_usage(out: &mut impl Write, err: &mut impl Write) -> u8 {
     let usage = format!(
@@ -60,6 +41,6 @@ Answers the query lines of standard input over a time zone:
     );
     match out.write_all(usage.as_bytes()) {
         Ok(()) => 0,
-        Err(_) => status_of(query::RunFault::Write, err),
+        Err(_) => fail(err, line_of(RunFault::Write)),
     }
 }

@@ -12,6 +12,8 @@ mod shim;
 mod streams;
 
 use proved::tz_query::query;
+#[cfg(feature = "zones")]
+use proved::tz_query::query::program::{fail, line_of};
 use std::ffi::OsString;
 use std::process::ExitCode;
 use std::{env, io};
@@ -36,7 +38,10 @@ fn answer_lines(arguments: &[&str]) -> u8 {
         ["--help"] => return built_in::print_usage(&mut out, &mut err),
         ["-z", name] => {
             if let Some(zone) = built_in::zone_without_file(name, reader) {
-                return built_in::answer_lines(zone, &mut input, &mut out, &mut err);
+                return match query::run(Global, zone, &mut input, &mut out) {
+                    Ok(()) => 0,
+                    Err(fault) => fail(&mut err, line_of(fault)),
+                };
             }
         }
         _ => {}

@@ -1,5 +1,8 @@
 //! The built program: its arguments, texts, statuses and streams.
 
+mod answers;
+mod runner;
+
 use std::ffi::OsStr;
 use std::io::Write;
 use std::path::PathBuf;
@@ -8,7 +11,7 @@ use std::{fs, thread};
 
 /// The program with these arguments.
 fn program<S: AsRef<OsStr>>(arguments: &[S]) -> Command {
-    let mut program = Command::new(env!("CARGO_BIN_EXE_tzq"));
+    let mut program = runner::program();
     program.args(arguments);
     program
 }
@@ -172,6 +175,41 @@ fn lines_have_one_answer_wherever_they_stand() {
     }
 }
 
+/// Lines of usual numbers, each with any byte in any place, beside the same lines with so many
+/// zeros before their first number that they are read the other way.
+#[test]
+fn zeros_before_a_number_change_no_answer() {
+    let usual = [
+        "T 1729990245 123456789",
+        "T -62135596800 1234",
+        "F 2024 10 27 2 30 45 123456789",
+        "F -1 2 29 23 59 5 1234567",
+    ];
+    for line in usual {
+        let (mut lines, mut longer) = (Vec::new(), Vec::new());
+        for place in 0..line.len() {
+            for byte in 0..=u8::MAX {
+                let mut line = line.as_bytes().to_vec();
+                line[place] = byte;
+                line.push(b'\n');
+                lines.extend_from_slice(&line);
+                let first_digit = if line[2] == b'-' { 3 } else { 2 };
+                longer.extend_from_slice(&line[..first_digit]);
+                longer.extend_from_slice(&[b'0'; 20]);
+                longer.extend_from_slice(&line[first_digit..]);
+            }
+        }
+        let [found, expected] = [lines, longer].map(|mut lines| {
+            lines.resize(lines.len() + 60, b'x');
+            String::from_utf8(run(&["-o", "3600"], &lines).stdout).unwrap()
+        });
+        for (found, expected) in found.lines().zip(expected.lines()) {
+            assert_eq!(found, expected, "{line}");
+        }
+        assert_eq!(found.len(), expected.len(), "{line}");
+    }
+}
+
 #[test]
 fn bad_arguments_are_refused_before_input_is_read() {
     let bad: &[&[&str]] = &[
@@ -202,8 +240,22 @@ fn bad_arguments_are_refused_before_input_is_read() {
 #[test]
 fn an_argument_that_is_no_text_is_bad() {
     use std::os::unix::ffi::OsStrExt;
+    let bad = OsStr::from_bytes(b"-\xff");
     for option in ["-f", "-z", "-o"] {
-        let arguments = [option.as_ref(), OsStr::from_bytes(b"\xff")];
+        let [option, value] = [option, "0"].map(OsStr::new);
+        // In each place, also beside arguments that name a zone.
+        for arguments in [
+            &[option, bad][..],
+            &[bad, option],
+            &[option, value, bad],
+            &[option, bad, value],
+            &[bad, option, value],
+        ] {
+            expect(&run(arguments, b"T 0 0\n"), "", "tzq: bad arguments\n", 1);
+        }
+    }
+    let help = OsStr::new("--help");
+    for arguments in [[help, bad], [bad, help]] {
         expect(&run(&arguments, b""), "", "tzq: bad arguments\n", 1);
     }
 }
@@ -332,8 +384,8 @@ mod streams {
             let mut shell = Command::new("sh");
             shell.args([
                 "-c",
-                &format!("exec \"$0\" -o 0 {closed}"),
-                env!("CARGO_BIN_EXE_tzq"),
+                &format!("exec $TZQ_RUNNER \"$0\" -o 0 {closed}"),
+                runner::PROGRAM,
             ]);
             shell
         };
@@ -379,14 +431,11 @@ mod streams {
             }
         }
 
+        /// Sends a signal, by the `kill` that each shell has in itself.
         fn signal(child: &Child, name: &str) {
-            let mut kill = Command::new("kill");
-            assert!(
-                kill.args([format!("-{name}"), child.id().to_string()])
-                    .status()
-                    .unwrap()
-                    .success()
-            );
+            let mut shell = Command::new("sh");
+            let kill = format!("kill -{name} {}", child.id());
+            assert!(shell.args(["-c", &kill]).status().unwrap().success());
         }
 
         /// std handles this signal once, and does not ask the system to begin a read anew then.

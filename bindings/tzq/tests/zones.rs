@@ -4,12 +4,14 @@
 //! it loads, and the files that a test puts there.
 #![cfg(target_os = "linux")]
 
+mod runner;
+
 use std::io::Write;
 use std::path::{Path, PathBuf};
 use std::process::{Command, Output, Stdio};
 use std::{fs, thread};
 
-const PROGRAM: &str = env!("CARGO_BIN_EXE_tzq");
+use runner::PROGRAM;
 
 /// A file of UTC.
 const UTC: &[u8] = b"TZif\0\0\0\0\0\0\0\0\0\0\0\0\0\0\0\0\
@@ -56,7 +58,7 @@ impl Root {
                 return Some(root);
             }
         }
-        eprintln!("{test}: not tried, since this user can enter no other root");
+        eprintln!("{test}: not tried, since this user can enter no other root, or run it there");
         None
     }
 
@@ -225,7 +227,7 @@ mod built_in {
 
     #[test]
     fn the_usage_says_that_zones_are_built_in() {
-        let output = Command::new(PROGRAM).arg("--help").output().unwrap();
+        let output = runner::program().arg("--help").output().unwrap();
         let usage = String::from_utf8(output.stdout).unwrap();
         assert!(usage.starts_with("usage: tzq OPTION VALUE\n"), "{usage}");
         assert!(usage.contains(&format!(
@@ -233,7 +235,7 @@ mod built_in {
         )));
         assert_eq!((output.stderr, output.status.code()), (Vec::new(), Some(0)));
         let full = fs::File::options().write(true).open("/dev/full").unwrap();
-        let output = Command::new(PROGRAM)
+        let output = runner::program()
             .arg("--help")
             .stdout(full)
             .output()

@@ -1,11 +1,22 @@
 //! The parts of which constants are made. A part that the library refuses is a panic, which is an
 //! error of compilation in a constant.
 
-use tz::timezone::{
-    AlternateTime, Julian0WithLeap, Julian1WithoutLeap, MonthWeekDay, RuleDay, Transition,
-    TransitionRule,
-};
+use tz::timezone::{AlternateTime, MonthWeekDay, RuleDay, Transition, TransitionRule};
 use tz::{LocalTimeType, TimeZoneRef};
+
+/// What the library makes of parts, where it accepts them.
+macro_rules! checked {
+    ($made:expr, $what:literal) => {
+        match $made {
+            Ok(value) => value,
+            Err(_) => panic!(concat!("the check refuses this ", $what)),
+        }
+    };
+}
+
+// Days of the year, of which a version of the database may have none, are made by it.
+#[allow(unused_imports)]
+pub(crate) use checked;
 
 /// A zone without leap seconds, by the check of the library.
 pub(crate) const fn zone(
@@ -13,10 +24,8 @@ pub(crate) const fn zone(
     local_time_types: &'static [LocalTimeType],
     extra_rule: &'static Option<TransitionRule>,
 ) -> TimeZoneRef<'static> {
-    match TimeZoneRef::new(transitions, local_time_types, &[], extra_rule) {
-        Ok(zone) => zone,
-        Err(_) => panic!("the check refuses this zone"),
-    }
+    let zone = TimeZoneRef::new(transitions, local_time_types, &[], extra_rule);
+    checked!(zone, "zone")
 }
 
 /// A table of pairs of an instant and the index of the type from it on.
@@ -32,10 +41,8 @@ pub(crate) const fn table<const N: usize>(pairs: [(i64, usize); N]) -> [Transiti
 
 /// A type by its offset from UTC in seconds, whether it is daylight saving time, and its name.
 pub(crate) const fn local(ut_offset: i32, is_dst: bool, name: &str) -> LocalTimeType {
-    match LocalTimeType::new(ut_offset, is_dst, Some(name.as_bytes())) {
-        Ok(local_time_type) => local_time_type,
-        Err(_) => panic!("the check refuses this type"),
-    }
+    let made = LocalTimeType::new(ut_offset, is_dst, Some(name.as_bytes()));
+    checked!(made, "type")
 }
 
 /// A rule of one type.
@@ -52,34 +59,27 @@ pub(crate) const fn alternate(
     dst_end: RuleDay,
     dst_end_time: i32,
 ) -> Option<TransitionRule> {
-    match AlternateTime::new(std, dst, dst_start, dst_start_time, dst_end, dst_end_time) {
-        Ok(rule) => Some(TransitionRule::Alternate(rule)),
-        Err(_) => panic!("the check refuses this rule"),
-    }
+    let made = AlternateTime::new(std, dst, dst_start, dst_start_time, dst_end, dst_end_time);
+    Some(TransitionRule::Alternate(checked!(made, "rule")))
 }
 
 /// `Mm.w.d`
 pub(crate) const fn week_day(month: u8, week: u8, week_day: u8) -> RuleDay {
-    match MonthWeekDay::new(month, week, week_day) {
-        Ok(day) => RuleDay::MonthWeekDay(day),
-        Err(_) => panic!("the check refuses this day"),
-    }
+    RuleDay::MonthWeekDay(checked!(MonthWeekDay::new(month, week, week_day), "day"))
 }
 
-/// `Jn`
-#[allow(dead_code, reason = "versions of the database may have no such day")]
-pub(crate) const fn day_without_leap(day: u16) -> RuleDay {
-    match Julian1WithoutLeap::new(day) {
-        Ok(day) => RuleDay::Julian1WithoutLeap(day),
-        Err(_) => panic!("the check refuses this day"),
-    }
-}
+#[cfg(test)]
+mod tests {
+    use super::*;
 
-/// `n`
-#[allow(dead_code, reason = "versions of the database may have no such day")]
-pub(crate) const fn day_with_leap(day: u16) -> RuleDay {
-    match Julian0WithLeap::new(day) {
-        Ok(day) => RuleDay::Julian0WithLeap(day),
-        Err(_) => panic!("the check refuses this day"),
+    #[test]
+    fn a_type_keeps_its_parts() {
+        for ut_offset in (-90_000..=93_600).step_by(450) {
+            for is_dst in [false, true] {
+                let made = local(ut_offset, is_dst, "-ABC12+");
+                assert_eq!((made.ut_offset(), made.is_dst()), (ut_offset, is_dst));
+                assert_eq!(made.time_zone_designation(), "-ABC12+");
+            }
+        }
     }
 }

@@ -116,6 +116,14 @@ fn names_in_another_case_have_no_zone() {
     }
 }
 
+/// The page is by hand, so the version that the generator writes is not all that says it.
+#[test]
+fn the_version_and_the_number_of_names_are_those_of_the_page() {
+    let page = include_str!("../README.md");
+    let said = format!("Version {VERSION} has {} names", NAMES.len());
+    assert!(page.contains(&said), "README.md lacks: {said}");
+}
+
 #[test]
 fn the_version_is_a_year_and_a_letter() {
     let (year, letters) = VERSION.split_at(4);

@@ -9,40 +9,49 @@ use crate::proved::tz_zone::inner::plain;
 use crate::shim::alloc::Global;
 use crate::timezone::TimeZoneRef;
 use alloc::vec::Vec;
+use core::fmt;
 
 /// The date times that a search found, by rising Unix time: the list that [`DateTime::find`] returns. It may be empty.
-#[derive(Debug, Default, Clone, PartialEq)]
-pub struct FoundDateTimeList(Vec<FoundDateTimeKind>);
+#[derive(PartialEq)]
+pub struct FoundDateTimeList(FoundList<Global>);
 
 impl FoundDateTimeList {
     /// The date time, if exactly one was found and no jump, and otherwise `None`.
     pub fn unique(&self) -> Option<DateTime> {
-        match self.0.as_slice() {
-            [FoundDateTimeKind::Normal(date_time)] => Some(*date_time),
-            _ => None,
-        }
+        self.0.unique()
     }
 
     /// The earliest date time; of a jump the side before it. `None` if nothing was found.
     pub fn earliest(&self) -> Option<DateTime> {
-        Some(*self.0.first()?.sides().0)
+        self.0.earliest()
     }
 
     /// The latest date time; of a jump the side after it. `None` if nothing was found.
     pub fn latest(&self) -> Option<DateTime> {
-        Some(*self.0.last()?.sides().1)
+        self.0.latest()
     }
 
     /// What was found.
     pub fn into_inner(self) -> Vec<FoundDateTimeKind> {
-        self.0
+        self.0.into_inner().into_std()
     }
 }
 
-impl From<FoundList<Global>> for FoundDateTimeList {
-    #[inline]
-    fn from(list: FoundList<Global>) -> Self {
-        FoundDateTimeList(list.into_inner().into_std())
+impl Default for FoundDateTimeList {
+    fn default() -> Self {
+        FoundDateTimeList(FoundList::new_in(Global))
+    }
+}
+
+impl Clone for FoundDateTimeList {
+    fn clone(&self) -> Self {
+        FoundDateTimeList(self.0.try_clone().expect("out of memory"))
+    }
+}
+
+impl fmt::Debug for FoundDateTimeList {
+    fn fmt(&self, f: &mut fmt::Formatter<'_>) -> fmt::Result {
+        self.0.fmt(f)
     }
 }
 
@@ -86,7 +95,8 @@ impl DateTime {
         time_zone_ref: TimeZoneRef<'_>,
     ) -> Result<FoundDateTimeList, TzError> {
         let fields = Fields::new(year, month, month_day, hour, minute, second, nanoseconds);
-        Ok(find_fields(Global, &fields, &plain(&time_zone_ref))?.into())
+        let found = find_fields(Global, &fields, &plain(&time_zone_ref))?;
+        Ok(FoundDateTimeList(found))
     }
 
     /// What [`DateTime::find`] returns for the fields of the local time. The `UtcDateTime` is read as a local time, without an offset.
@@ -100,6 +110,7 @@ impl DateTime {
         local: UtcDateTime,
         time_zone_ref: TimeZoneRef<'_>,
     ) -> Result<FoundDateTimeList, TzError> {
-        Ok(find_fields(Global, local.fields(), &plain(&time_zone_ref))?.into())
+        let found = find_fields(Global, local.fields(), &plain(&time_zone_ref))?;
+        Ok(FoundDateTimeList(found))
     }
 }

@@ -10,5 +10,3 @@ pub use crate::proved::tz::datetime::{
 };
 #[cfg(feature = "alloc")]
 pub use find::FoundDateTimeList;
-#[cfg(feature = "std")]
-pub(crate) use system_time::whole_seconds;

@@ -1,9 +1,15 @@
-//! Times of the system's clock.
+//! Times of the system's clock. Durations since 1970 are those of the proved library.
 
 use super::{DateTime, UtcDateTime};
 use crate::error::TzError;
-use crate::timezone::TimeZoneRef;
+use crate::timezone::{LocalTimeType, TimeZoneRef};
 use std::time::{Duration, SystemTime};
+
+/// The beginning of 1970.
+const EPOCH: DateTime = match DateTime::from_timespec_and_local(0, 0, LocalTimeType::utc()) {
+    Ok(epoch) => epoch,
+    Err(_) => panic!("1970 is a year of an i32"),
+};
 
 /// The time since 1970, as an error if it is the time until then.
 fn since_epoch(time: SystemTime) -> Result<Duration, Duration> {
@@ -11,44 +17,9 @@ fn since_epoch(time: SystemTime) -> Result<Duration, Duration> {
         .map_err(|error| error.duration())
 }
 
-/// The nanoseconds of a duration, which fit easily.
-const fn nanoseconds_of(duration: Duration) -> i128 {
-    duration.as_nanos() as i128
-}
-
-/// The nanoseconds since 1970.
-fn total_nanoseconds(time: SystemTime) -> i128 {
-    match since_epoch(time) {
-        Ok(since) => nanoseconds_of(since),
-        Err(until) => -nanoseconds_of(until),
-    }
-}
-
-/// The seconds since 1970, rounded towards it, and to the ends of 64 bits.
-pub(crate) fn whole_seconds(time: SystemTime) -> i64 {
-    match since_epoch(time) {
-        Ok(since) => 0_i64.saturating_add_unsigned(since.as_secs()),
-        Err(until) => 0_i64.saturating_sub_unsigned(until.as_secs()),
-    }
-}
-
-/// The duration of nanoseconds since 1970, as an error if it is one until then. They are of a date time, so the seconds fit 64 bits.
-const fn duration_of(total_nanoseconds: i128) -> Result<Duration, Duration> {
-    let apart = total_nanoseconds.unsigned_abs();
-    let duration = Duration::new(
-        (apart / 1_000_000_000) as u64,
-        (apart % 1_000_000_000) as u32,
-    );
-    if total_nanoseconds < 0 {
-        Err(duration)
-    } else {
-        Ok(duration)
-    }
-}
-
-/// The time of the system's clock so many nanoseconds after 1970.
-fn system_time(total_nanoseconds: i128) -> SystemTime {
-    match duration_of(total_nanoseconds) {
+/// The time of the system's clock this long after 1970, or before it if as an error.
+fn system_time(since: Result<Duration, Duration>) -> SystemTime {
+    match since {
         Ok(since) => SystemTime::UNIX_EPOCH + since,
         Err(until) => SystemTime::UNIX_EPOCH - until,
     }
@@ -70,10 +41,9 @@ impl DateTime {
     ///
     /// # Errors
     ///
-    /// Those of [`DateTime::from_timespec`] but for nanoseconds.
+    /// Those of [`UtcDateTime::now`] and of [`UtcDateTime::project`].
     pub fn now(time_zone_ref: TimeZoneRef<'_>) -> Result<Self, TzError> {
-        let now = total_nanoseconds(SystemTime::now());
-        DateTime::from_total_nanoseconds(now, time_zone_ref)
+        UtcDateTime::now()?.project(time_zone_ref)
     }
 }
 
@@ -81,18 +51,22 @@ impl TryFrom<SystemTime> for UtcDateTime {
     type Error = TzError;
 
     fn try_from(time: SystemTime) -> Result<Self, TzError> {
-        UtcDateTime::from_total_nanoseconds(total_nanoseconds(time))
+        let utc_date_time = match since_epoch(time) {
+            Ok(since) => UtcDateTime::UNIX_EPOCH.checked_add(since),
+            Err(until) => UtcDateTime::UNIX_EPOCH.checked_sub(until),
+        };
+        utc_date_time.ok_or(TzError::OutOfRange)
     }
 }
 
 impl From<UtcDateTime> for SystemTime {
     fn from(utc_date_time: UtcDateTime) -> Self {
-        system_time(utc_date_time.total_nanoseconds())
+        system_time(utc_date_time.duration_since(UtcDateTime::UNIX_EPOCH))
     }
 }
 
 impl From<DateTime> for SystemTime {
     fn from(date_time: DateTime) -> Self {
-        system_time(date_time.total_nanoseconds())
+        system_time(date_time.duration_since(EPOCH))
     }
 }

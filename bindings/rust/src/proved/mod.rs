@@ -2,5 +2,7 @@
 
 pub mod tz;
 pub mod tz_base;
+pub mod tz_civil;
+pub mod tz_format;
 pub mod tz_rule;
 pub mod tz_zone;

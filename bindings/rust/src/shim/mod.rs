@@ -1,17 +1,27 @@
 //! What the proved sources use of their standard library, over Rust's: allocations that can fail, errors of any kind, files.
 //!
-//! Without the feature `alloc` each allocation fails, and without `std` each file.
+//! What allocates is there with the feature `alloc`, and files with `std`.
 
 pub mod alloc;
+#[cfg(feature = "alloc")]
 pub mod anyhow;
 mod array_string;
+#[cfg(feature = "std")]
 pub mod fs;
+#[cfg(feature = "std")]
 pub mod io;
+#[cfg(feature = "std")]
 pub mod rt;
+#[cfg(test)]
+mod tests;
+#[cfg(feature = "alloc")]
+mod vec;
 
-pub use alloc::{String, Vec};
+#[cfg(feature = "alloc")]
 pub(crate) use anyhow::anyhow;
 pub use array_string::ArrayString;
+#[cfg(feature = "alloc")]
+pub use vec::{String, Vec};
 
 /// The text of bytes that the proof shows to be text.
 #[inline]

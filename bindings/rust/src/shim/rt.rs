@@ -12,10 +12,8 @@ pub trait Files {
 }
 
 /// The machine's files.
-#[cfg(feature = "std")]
 pub struct Machine;
 
-#[cfg(feature = "std")]
 impl Files for Machine {
     type File = std::fs::File;
 

@@ -1,11 +1,12 @@
 //! Settings by which the time zone of a string is found.
 
 use super::TimeZone;
-use crate::error::{Error, ReadFault};
+use crate::error::{AllocError, Error, ReadFault};
 use crate::proved::tz_zone::timezone::TimeZoneSettings as Settings;
 use crate::shim::Vec as Items;
 use crate::shim::alloc::Global;
 use alloc::boxed::Box;
+use alloc::collections::TryReserveError;
 use alloc::vec::Vec;
 use core::error;
 
@@ -14,12 +15,37 @@ use crate::proved::tz_zone::timezone::{DEFAULT_DIRECTORIES, TimeZone as Zone};
 #[cfg(feature = "std")]
 use crate::shim::rt::Machine;
 
+/// An error of a reader.
+type AnyError = Box<dyn error::Error + Send + Sync + 'static>;
+
 /// A function that returns the bytes of the file at a path.
-type ReadFileFn = fn(path: &str) -> Result<Vec<u8>, Box<dyn error::Error + Send + Sync + 'static>>;
+type ReadFileFn = fn(path: &str) -> Result<Vec<u8>, AnyError>;
+
+/// Whether a reader's error is a failed allocation.
+fn is_out_of_memory(error: &(dyn error::Error + 'static)) -> bool {
+    #[cfg(feature = "std")]
+    if let Some(error) = error.downcast_ref::<std::io::Error>() {
+        return error.kind() == std::io::ErrorKind::OutOfMemory;
+    }
+    matches!(error.downcast_ref(), Some(ReadFault::Memory(_)))
+        || error.is::<AllocError>()
+        || error.is::<TryReserveError>()
+}
+
+/// What a search takes, of a function that reads a file.
+fn reader_of(read_file_fn: ReadFileFn) -> impl Fn(&str) -> Result<Items<u8>, ReadFault> {
+    let fault_of = |error: AnyError| match is_out_of_memory(&*error) {
+        true => ReadFault::Memory(AllocError),
+        false => ReadFault::Failed(error),
+    };
+    move |path: &str| read_file_fn(path).map(Items::from_std).map_err(fault_of)
+}
 
 /// How a time zone is found: the directories of files, and the function that reads one.
 ///
-/// The function is called with each path in turn until it returns bytes.
+/// The function is called with each path in turn until it returns bytes, or an error that says that an allocation failed: an `std::io::Error` of the
+/// kind `OutOfMemory`, a [`ReadFault::Memory`], an [`AllocError`] or a `TryReserveError`. Such an error ends the call with
+/// [`TzError::Memory`](crate::TzError::Memory), since it is unknown whether the file exists.
 #[derive(Debug)]
 pub struct TimeZoneSettings<'a> {
     directories: &'a [&'a str],
@@ -52,13 +78,7 @@ impl<'a> TimeZoneSettings<'a> {
 
     /// The settings of the proved library.
     fn proved(&self) -> Settings<'a, impl Fn(&str) -> Result<Items<u8>, ReadFault>> {
-        let read_file_fn = self.read_file_fn;
-        Settings::new(self.directories, move |path: &str| {
-            match read_file_fn(path) {
-                Ok(bytes) => Ok(Items::from_std(bytes)),
-                Err(error) => Err(ReadFault::Failed(error)),
-            }
-        })
+        Settings::new(self.directories, reader_of(self.read_file_fn))
     }
 
     /// The machine's local time zone: that of the TZif file at `/etc/localtime`.
@@ -66,7 +86,8 @@ impl<'a> TimeZoneSettings<'a> {
     /// # Errors
     ///
     /// - [`Error::Io`] if that file cannot be read;
-    /// - [`Error::Tz`] with an error of [`TimeZone::from_tz_data`] if the file is not a TZif file.
+    /// - [`Error::Tz`] with an error of [`TimeZone::from_tz_data`] if the file is not a TZif file, or of `Memory` if an allocation fails, also in the
+    ///   reader.
     pub fn parse_local(&self) -> Result<TimeZone, Error> {
         Ok(TimeZone::of(self.proved().parse_local(Global)?))
     }
@@ -80,7 +101,8 @@ impl<'a> TimeZoneSettings<'a> {
     /// # Errors
     ///
     /// - [`Error::Io`] if the file of `localtime` or of a name after `:` cannot be read;
-    /// - [`Error::Tz`] with an error of [`TimeZone::from_tz_data`] if the file is not a TZif file, and otherwise with one of the TZ string.
+    /// - [`Error::Tz`] with an error of [`TimeZone::from_tz_data`] if the file is not a TZif file, of `Memory` if an allocation fails, also in the
+    ///   reader, and otherwise with one of the TZ string.
     pub fn parse_posix_tz(&self, tz_string: &str) -> Result<TimeZone, Error> {
         Ok(TimeZone::of(
             self.proved().parse_posix_tz(Global, tz_string)?,
@@ -119,12 +141,10 @@ impl TimeZone {
     ///
     /// - [`Error::Io`] if the text is not a name, or if no directory has a file with it that can be read; the error's text says which, and has the
     ///   name;
-    /// - [`Error::Tz`] with an error of [`TimeZone::from_tz_data`] if the file is not a TZif file.
+    /// - [`Error::Tz`] with an error of [`TimeZone::from_tz_data`] if the file is not a TZif file, or of `Memory` if an allocation fails, also that for
+    ///   the bytes of a file.
     pub fn named(name: &str) -> Result<Self, Error> {
-        let reader = |path: &str| match TimeZoneSettings::DEFAULT_READ_FILE_FN(path) {
-            Ok(bytes) => Ok(Items::from_std(bytes)),
-            Err(error) => Err(ReadFault::Failed(error)),
-        };
+        let reader = reader_of(TimeZoneSettings::DEFAULT_READ_FILE_FN);
         Ok(TimeZone::of(Zone::named(Global, reader, name)?))
     }
 }

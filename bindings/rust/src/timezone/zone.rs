@@ -4,6 +4,8 @@ use super::{
     Change, ChangesAfter, ChangesBefore, LeapSecond, LocalTimeType, Segment, TimeZoneRef,
     Transition, TransitionRule,
 };
+#[cfg(feature = "std")]
+use crate::datetime::UtcDateTime;
 use crate::error::TzError;
 use crate::error::timezone::LocalTimeTypeError;
 use crate::proved::tz_zone::timezone::TimeZone as Zone;
@@ -14,6 +16,7 @@ use alloc::vec::Vec;
 use core::fmt;
 
 /// A time zone that owns its parts.
+#[derive(PartialEq)]
 pub struct TimeZone(Zone<Global>);
 
 impl TimeZone {
@@ -96,14 +99,14 @@ impl TimeZone {
         self.0.find_local_time_type(unix_time)
     }
 
-    /// The clock's type now. A time before 1970 is rounded up to a second.
+    /// The clock's type now.
     ///
     /// # Errors
     ///
-    /// Those of [`TimeZoneRef::find_local_time_type`].
+    /// Those of [`UtcDateTime::now`] and of [`TimeZoneRef::find_local_time_type`].
     #[cfg(feature = "std")]
     pub fn find_current_local_time_type(&self) -> Result<&LocalTimeType, TzError> {
-        self.find_local_time_type(crate::datetime::whole_seconds(std::time::SystemTime::now()))
+        self.find_local_time_type(UtcDateTime::now()?.unix_time())
     }
 
     /// The segment around an instant, as [`TimeZoneRef::segment_at`] returns it.
@@ -135,12 +138,6 @@ impl TimeZone {
 impl Clone for TimeZone {
     fn clone(&self) -> Self {
         TimeZone(self.0.try_clone().expect("out of memory"))
-    }
-}
-
-impl PartialEq for TimeZone {
-    fn eq(&self, other: &Self) -> bool {
-        self.0 == other.0
     }
 }
 

@@ -4,6 +4,7 @@
 
 pub use crate::proved::tz::datetime::date_time::{DateTimeData, FoundData, UtcData, fields_of};
 pub use crate::proved::tz::datetime::disambiguation::{Ends, FewEntries, ends_by_types, find_one};
+#[cfg(feature = "alloc")]
 pub use crate::proved::tz::datetime::find::find_fields;
 pub use crate::proved::tz::datetime::gaps_and_folds::{types_of_window, window_of};
 pub use crate::proved::tz::datetime::zone_data_searches::{find_into, from_timespec};
@@ -11,4 +12,6 @@ pub use crate::proved::tz::parse::{read_digits, value_of};
 pub use crate::proved::tz::print::middle_of;
 pub use crate::proved::tz::text_buffer::{TextBuffer, two_pairs};
 pub use crate::proved::tz_base::fields::{Fields, is_reading, local_reading};
-pub use crate::proved::tz_zone::inner::{WindowTypes, after_byte, plain, read_to_end};
+#[cfg(feature = "std")]
+pub use crate::proved::tz_zone::inner::read_to_end;
+pub use crate::proved::tz_zone::inner::{WindowTypes, after_byte, plain};

@@ -92,9 +92,10 @@ mod tz_string_writer;
 pub use crate::proved::tz::datetime::{DateTime, UtcDateTime};
 pub use crate::proved::tz::error::{Error, TzError};
 pub use crate::proved::tz::parse::{DateTimePart, ParseDateTimeError, ParsedDateTime};
+#[cfg(feature = "alloc")]
+pub use crate::proved::tz::timezone::TimeZone;
 pub use crate::proved::tz::timezone::{
-    Change, ChangesAfter, ChangesBefore, LocalTimeType, Segment, TimeZone, TimeZoneRef,
-    TimeZoneSettings,
+    Change, ChangesAfter, ChangesBefore, LocalTimeType, Segment, TimeZoneRef, TimeZoneSettings,
 };
 pub use crate::proved::tz::tz_string_writer::TzString;
 pub use crate::proved::tz_base::{constants, error};

@@ -173,12 +173,14 @@ pub enum TzError {
 #[cfg_attr(not(feature = "inner"), non_exhaustive)]
 pub enum Error {
     /// A file could not be read.
+    #[cfg(feature = "alloc")]
     Io(crate::shim::anyhow::Error),
     /// Every other error.
     Tz(TzError),
 }
 
 /// Why a file reader returned no bytes.
+#[cfg(feature = "alloc")]
 #[derive(Debug)]
 pub enum ReadFault {
     /// Out of memory: an allocation failed.
@@ -265,12 +267,14 @@ impl From<ParseDataError> for TzFileError {
     }
 }
 
+#[cfg(feature = "alloc")]
 impl From<AllocError> for ReadFault {
     fn from(error: AllocError) -> Self {
         ReadFault::Memory(error)
     }
 }
 
+#[cfg(feature = "alloc")]
 impl<T> From<AllocFailed<T>> for ReadFault {
     fn from(error: AllocFailed<T>) -> Self {
         ReadFault::Memory(AllocError::from(error))
@@ -452,6 +456,7 @@ impl error::Error for TzError {}
 impl fmt::Display for Error {
     fn fmt(&self, f: &mut fmt::Formatter<'_>) -> fmt::Result {
         match self {
+            #[cfg(feature = "alloc")]
             Error::Io(error) => error.fmt(f),
             Error::Tz(error) => error.fmt(f),
         }
@@ -460,6 +465,7 @@ impl fmt::Display for Error {
 
 impl error::Error for Error {}
 
+#[cfg(feature = "alloc")]
 impl fmt::Display for ReadFault {
     fn fmt(&self, f: &mut fmt::Formatter<'_>) -> fmt::Result {
         match self {
@@ -469,4 +475,5 @@ impl fmt::Display for ReadFault {
     }
 }
 
+#[cfg(feature = "alloc")]
 impl error::Error for ReadFault {}

@@ -91,7 +91,8 @@ impl<'a> Ends<'a> {
 
     /// Counts one more, which is the last.
     fn push(&mut self, entry: Entry<'a>) {
-        // A reading has at most 2^33 entries, so the count never comes to its end.
+        // A reading has at most 2^33 entries, and where a `usize` has 32 bits memory has no room
+        // for the transitions of 2^31, so the count never comes to its end.
         self.count = self.count.saturating_add(1);
         self.first = self.first.or(Some(entry));
         self.last = Some(entry);

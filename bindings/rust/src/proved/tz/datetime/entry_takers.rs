@@ -97,7 +97,8 @@ impl<'a, S: Slot> SlotWriter<'a, S> {
                 self.slots[index].set(found);
             }
         }
-        // A list has at most 2^33 entries, so the count never comes to its end.
+        // A list has at most 2^33 entries, and where a `usize` has 32 bits memory has no room for
+        // the transitions of 2^31, so the count never comes to its end.
         self.count = self.count.saturating_add(1);
     }
 }

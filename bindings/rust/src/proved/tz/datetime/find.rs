@@ -1,9 +1,11 @@
 // Generated from crates/tz/src/datetime/find.rt by bindings/erase: its contracts are cut. Change that file instead.
 //! The date times at which the clock of a zone shows given fields.
 
+#[cfg(feature = "alloc")]
+use super::FoundDateTimeList;
 use super::entry_takers::{DateTimeList, SlotWriter};
 use super::gaps_and_folds::search;
-use super::{DateTime, FoundDateTimeKind, FoundDateTimeList, FoundDateTimeListRefMut, UtcDateTime};
+use super::{DateTime, FoundDateTimeKind, FoundDateTimeListRefMut, UtcDateTime};
 use crate::proved::tz_base::error::TzError;
 use crate::proved::tz_base::fields::Fields;
 use crate::proved::tz_zone::inner::{Uncounted, ZoneData, plain};
@@ -17,6 +19,7 @@ pub(super) struct Refused<'a> {
 }
 
 /// What [`DateTime::find`] finds of the fields.
+#[cfg(feature = "alloc")]
 pub fn find_fields<A: Allocator + Copy>(
     alloc: A,
     fields: &Fields,

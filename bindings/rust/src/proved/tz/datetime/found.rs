@@ -5,6 +5,7 @@
 use super::DateTime;
 use super::entry_takers::DateTimeList;
 use crate::proved::tz_base::error::TzError;
+#[cfg(feature = "alloc")]
 use crate::shim::Vec;
 use crate::shim::alloc::{AllocError, Allocator, Global};
 use core::fmt;
@@ -41,11 +42,13 @@ impl FoundDateTimeKind {
 /// The date times that a search found, by rising Unix time.
 ///
 /// Lists are equal when their entries are, on whichever allocators.
+#[cfg(feature = "alloc")]
 #[derive(PartialEq)]
 pub struct FoundDateTimeList<A: Allocator + Copy = Global> {
     pub(super) found: Vec<FoundDateTimeKind, A>,
 }
 
+#[cfg(feature = "alloc")]
 impl<A: Allocator + Copy> FoundDateTimeList<A> {
     /// An empty list.
     pub fn new_in(alloc: A) -> Self {
@@ -88,6 +91,7 @@ impl<A: Allocator + Copy> FoundDateTimeList<A> {
     }
 }
 
+#[cfg(feature = "alloc")]
 impl<A: Allocator + Copy> DateTimeList for FoundDateTimeList<A> {
     /// The first one gets room for two, since a reading is found once, or twice if clocks are set
     /// back over it.
@@ -102,6 +106,7 @@ impl<A: Allocator + Copy> DateTimeList for FoundDateTimeList<A> {
 }
 
 /// Prints the name of the type and what was found, as if that alone stood in it.
+#[cfg(feature = "alloc")]
 impl<A: Allocator + Copy> fmt::Debug for FoundDateTimeList<A> {
     fn fmt(&self, f: &mut fmt::Formatter<'_>) -> fmt::Result {
         f.debug_tuple("FoundDateTimeList")

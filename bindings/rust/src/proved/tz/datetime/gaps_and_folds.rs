@@ -171,7 +171,7 @@ pub fn window_of(zone: &ZoneData<'_>, reading: i64) -> (i64, i64) {
 
 /// The types that the clock of a zone has in a window.
 #[inline(always)]
-pub fn types_of_window<'a>(zone: &ZoneData<'a>, low: i64, high: i64) -> WindowTypes<'a> {
+pub const fn types_of_window<'a>(zone: &ZoneData<'a>, low: i64, high: i64) -> WindowTypes<'a> {
     let mut view = Uncounted::new(zone.transitions());
     window_types(&mut view, *zone, low, high)
 }

@@ -12,5 +12,7 @@ pub(crate) mod zone_data_searches;
 
 pub use date_time::DateTime;
 pub use disambiguation::{Disambiguation, Meaning};
-pub use found::{FoundDateTimeKind, FoundDateTimeList, FoundDateTimeListRefMut};
+#[cfg(feature = "alloc")]
+pub use found::FoundDateTimeList;
+pub use found::{FoundDateTimeKind, FoundDateTimeListRefMut};
 pub use utc_date_time::UtcDateTime;

@@ -36,7 +36,7 @@ pub struct Span<'a> {
 /// The first instant from `unix_time` on that has a leap time, and the stage of a walk that begins
 /// there. `position` is that of `unix_time`, or `None` if there are transitions and it has no leap
 /// time. In a zone without transitions the first instant is `unix_time` itself.
-pub fn first_stage<'a>(
+pub const fn first_stage<'a>(
     view: &mut Uncounted<'_>,
     zone: &ZoneData<'a>,
     position: Option<usize>,
@@ -52,8 +52,14 @@ pub fn first_stage<'a>(
             },
         ));
     }
-    let first = first_begun(zone.leap_seconds, unix_time)?;
-    let position = position_at(view, zone, first)?;
+    let first = match first_begun(zone.leap_seconds, unix_time) {
+        Some(value) => value,
+        None => return None,
+    };
+    let position = match position_at(view, zone, first) {
+        Some(value) => value,
+        None => return None,
+    };
     let local_time_type = type_before(view, zone, position);
     Some((
         first,
@@ -66,7 +72,7 @@ pub fn first_stage<'a>(
 
 /// The span of a clock from where a walk has come to, up to `high` at most. `high` is not above
 /// `ALWAYS_DEFINED_UP_TO`, so every instant from `since` to it has a leap time.
-pub fn span_from<'a>(
+pub const fn span_from<'a>(
     view: &mut Uncounted<'_>,
     zone: &ZoneData<'a>,
     stage: Stage<'a>,
@@ -77,14 +83,14 @@ pub fn span_from<'a>(
     if stage.position == count {
         let segment = after_table(zone, count == 0, since);
         return Span {
-            last: segment.last.min(high),
+            last: crate::shim::least!(segment.last, high),
             local_time_type: segment.local_time_type,
             next: stage,
         };
     }
     let next = view.look(stage.position);
     Span {
-        last: last_before(zone.leap_seconds, next.unix_leap_time()).min(high),
+        last: crate::shim::least!(last_before(zone.leap_seconds, next.unix_leap_time()), high),
         local_time_type: Some(stage.local_time_type),
         next: Stage {
             position: stage.position + 1,
@@ -114,7 +120,7 @@ pub enum WindowTypes<'a> {
 
 /// The type that the clock has throughout, from one instant up to another, both from the last
 /// transition on or in a zone without transitions; `None` if it has none or several.
-fn type_through<'a>(
+const fn type_through<'a>(
     zone: ZoneData<'a>,
     is_empty: bool,
     unix_time: i64,
@@ -129,7 +135,12 @@ fn type_through<'a>(
 
 /// The types in a window after the last of so many transitions, or in a zone that has none.
 #[inline(always)]
-fn types_after_table<'a>(zone: ZoneData<'a>, count: usize, low: i64, high: i64) -> WindowTypes<'a> {
+const fn types_after_table<'a>(
+    zone: ZoneData<'a>,
+    count: usize,
+    low: i64,
+    high: i64,
+) -> WindowTypes<'a> {
     let first = after_table(&zone, count == 0, low);
     let Some(before) = first.local_time_type else {
         return WindowTypes::More(Some(count));
@@ -151,7 +162,7 @@ fn types_after_table<'a>(zone: ZoneData<'a>, count: usize, low: i64, high: i64) 
 /// The types in a window that begins at a position before the last transition, whose first instant
 /// has a leap time.
 #[inline(always)]
-fn types_at_position<'a>(
+const fn types_at_position<'a>(
     view: &mut Uncounted<'_>,
     zone: ZoneData<'a>,
     position: usize,
@@ -201,7 +212,7 @@ fn types_at_position<'a>(
 /// transitions that come next, or by the rule; but not two if the last transition lies in the
 /// window. Otherwise the answer is `More`.
 #[inline(always)]
-pub fn window_types<'a>(
+pub const fn window_types<'a>(
     view: &mut Uncounted<'_>,
     zone: ZoneData<'a>,
     low: i64,

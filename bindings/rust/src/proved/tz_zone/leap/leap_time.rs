@@ -106,10 +106,13 @@ const fn last_with(leap_seconds: &[LeapSecond], index: usize, high: i64) -> i64 
 /// The last instant up to `high` at which no leap second takes the leap time out of 64 bits.
 const fn last_with_all(leap_seconds: &[LeapSecond], high: i64) -> i64 {
     let mut last = high;
-    let mut index = 0;
-    while index < leap_seconds.len() {
-        last = last_with(leap_seconds, index, last);
-        index += 1;
+    {
+        let mut index = 0;
+        let index_end = leap_seconds.len();
+        while index < index_end {
+            last = last_with(leap_seconds, index, last);
+            index += 1;
+        }
     }
     last
 }

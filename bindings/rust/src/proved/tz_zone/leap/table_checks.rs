@@ -76,12 +76,15 @@ pub(crate) const fn are_leap_seconds(leap_seconds: &[LeapSecond]) -> bool {
     if !may_be_first(leap_seconds[0]) {
         return false;
     }
-    let mut i = 0;
-    while i < leap_seconds.len() {
-        if !follows_at(leap_seconds, i) {
-            return false;
+    {
+        let mut i = 0;
+        let i_end = leap_seconds.len();
+        while i < i_end {
+            if !follows_at(leap_seconds, i) {
+                return false;
+            }
+            i += 1;
         }
-        i += 1;
     }
     true
 }

@@ -9,7 +9,9 @@ use crate::proved::tz_rule::timezone::{LocalTimeType, TransitionRule};
 use crate::proved::tz_zone::leap::LeapSecond;
 use crate::proved::tz_zone::leap::table_checks::is_plain_table;
 use crate::proved::tz_zone::table::Transition;
+#[cfg(feature = "alloc")]
 use crate::proved::tz_zone::timezone::TimeZone;
+#[cfg(feature = "alloc")]
 use crate::shim::Vec;
 use crate::shim::alloc::{AllocError, Allocator, Global};
 use core::str;
@@ -333,6 +335,7 @@ fn transition_at(size: TimeSize, unit: &Unit<'_>, index: u32) -> Transition {
 }
 
 /// The transitions, in their order, with times of a size that the caller knows.
+#[cfg(feature = "alloc")]
 fn read_transitions_of<A: Allocator + Copy>(
     alloc: A,
     size: TimeSize,
@@ -346,6 +349,7 @@ fn read_transitions_of<A: Allocator + Copy>(
 }
 
 /// The transitions, in their order.
+#[cfg(feature = "alloc")]
 fn read_transitions<A: Allocator + Copy>(
     alloc: A,
     unit: &Unit<'_>,
@@ -402,6 +406,7 @@ fn read_type(unit: &Unit<'_>, index: u32) -> Result<LocalTimeType, TzError> {
 }
 
 /// The types, in their order.
+#[cfg(feature = "alloc")]
 fn read_types<A: Allocator + Copy>(
     alloc: A,
     unit: &Unit<'_>,
@@ -422,6 +427,7 @@ fn leap_second_at(unit: &Unit<'_>, index: u32) -> LeapSecond {
 }
 
 /// The leap seconds, in their order.
+#[cfg(feature = "alloc")]
 fn read_leap_seconds<A: Allocator + Copy>(
     alloc: A,
     unit: &Unit<'_>,
@@ -461,6 +467,7 @@ fn check_indicators(unit: &Unit<'_>) -> Result<(), TzFileError> {
 }
 
 /// The tables of a file.
+#[cfg(feature = "alloc")]
 struct Tables<A: Allocator + Copy = Global> {
     transitions: Vec<Transition, A>,
     local_time_types: Vec<LocalTimeType, A>,
@@ -468,6 +475,7 @@ struct Tables<A: Allocator + Copy = Global> {
 }
 
 /// Reads the tables.
+#[cfg(feature = "alloc")]
 #[inline(always)]
 fn read_tables<A: Allocator + Copy>(alloc: A, unit: &Unit<'_>) -> Result<Tables<A>, TzError> {
     let transitions = read_transitions(alloc, unit)?;
@@ -537,6 +545,7 @@ fn read_extra_rule(
     }
 }
 
+#[cfg(feature = "alloc")]
 impl<A: Allocator + Copy> TimeZone<A> {
     /// The zone that the bytes of a TZif file denote. (RFC 8536)
     ///
@@ -568,6 +577,7 @@ impl<A: Allocator + Copy> TimeZone<A> {
 }
 
 /// Reads a zone from the bytes of a file.
+#[cfg(feature = "alloc")]
 #[inline(always)]
 fn parse_tz_file<A: Allocator + Copy>(alloc: A, bytes: &[u8]) -> Result<TimeZone<A>, TzError> {
     let frame = read_frame(bytes)?;

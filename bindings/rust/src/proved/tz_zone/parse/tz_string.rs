@@ -10,7 +10,9 @@ use crate::proved::tz_rule::timezone::{
     AlternateTime, Julian0WithLeap, Julian1WithoutLeap, LocalTimeType, MonthWeekDay, RuleDay,
     TransitionRule,
 };
+#[cfg(feature = "alloc")]
 use crate::proved::tz_zone::timezone::TimeZone;
+#[cfg(feature = "alloc")]
 use crate::shim::Vec;
 use crate::shim::alloc::Allocator;
 
@@ -468,6 +470,7 @@ pub fn parse_posix_tz(text: &[u8], extended: bool) -> Result<TransitionRule, TzE
 }
 
 /// The types of a rule.
+#[cfg(feature = "alloc")]
 fn types_of<A: Allocator + Copy>(
     alloc: A,
     rule: &TransitionRule,
@@ -479,6 +482,7 @@ fn types_of<A: Allocator + Copy>(
 }
 
 /// The zone of a rule.
+#[cfg(feature = "alloc")]
 fn zone_of_rule<A: Allocator + Copy>(
     alloc: A,
     rule: TransitionRule,
@@ -488,6 +492,7 @@ fn zone_of_rule<A: Allocator + Copy>(
 }
 
 /// The zone of a TZ string, with white space at its ends or without.
+#[cfg(feature = "alloc")]
 pub(crate) fn zone_of_tz_string<A: Allocator + Copy>(
     alloc: A,
     text: &str,

@@ -1,7 +1,9 @@
 // Generated from crates/tz_zone/src/timezone/changes.rt by bindings/erase: its contracts are cut. Change that file instead.
 //! The segments of a zone's clock, and where it changes.
 
-use super::{Change, Segment, TimeZone, TimeZoneRef};
+#[cfg(feature = "alloc")]
+use super::TimeZone;
+use super::{Change, Segment, TimeZoneRef};
 use crate::proved::tz_zone::clock;
 use crate::shim::alloc::Allocator;
 use core::iter::FusedIterator;
@@ -188,6 +190,7 @@ impl<'a> TimeZoneRef<'a> {
     }
 }
 
+#[cfg(feature = "alloc")]
 impl<A: Allocator + Copy> TimeZone<A> {
     /// The segment around an instant, as [`TimeZoneRef::segment_at`] returns it.
     pub fn segment_at(&self, unix_time: i64) -> Segment<'_> {

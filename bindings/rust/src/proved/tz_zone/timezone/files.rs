@@ -1,12 +1,18 @@
 // Generated from crates/tz_zone/src/timezone/files.rt by bindings/erase: its contracts are cut. Change that file instead.
 //! Files of zones: reading one, and no more of it than a limit.
 
+#[cfg(feature = "alloc")]
 use crate::proved::tz_base::error::ReadFault;
+#[cfg(feature = "alloc")]
 use crate::shim::Vec;
 use crate::shim::alloc::{Allocator, Global};
+#[cfg(feature = "alloc")]
 use crate::shim::anyhow;
+#[cfg(feature = "std")]
 use crate::shim::fs::File;
+#[cfg(feature = "std")]
 use crate::shim::io::{self, Read};
+#[cfg(feature = "std")]
 use crate::shim::rt::Files;
 
 /// How many bytes are read at once. A longer buffer takes longer to clear than a second read of the
@@ -17,6 +23,7 @@ const PIECE: usize = 2_000;
 const NO_SUCH_FILE: i32 = 2;
 
 /// Reads a piece into the beginning of the buffer.
+#[cfg(feature = "std")]
 fn read_piece<I: Read>(input: &mut I, buffer: &mut [u8]) -> Result<usize, ReadFault> {
     match input.read(buffer) {
         Ok(count) => Ok(count),
@@ -25,6 +32,7 @@ fn read_piece<I: Read>(input: &mut I, buffer: &mut [u8]) -> Result<usize, ReadFa
 }
 
 /// Appends a piece. The first one reserves room for this number of bytes.
+#[cfg(feature = "alloc")]
 fn append<A: Allocator>(
     bytes: &mut Vec<u8, A>,
     piece: &[u8],
@@ -39,6 +47,7 @@ fn append<A: Allocator>(
 
 /// Reads the input to its end. Where it is not empty, room for this number of bytes is reserved,
 /// since a growth may copy everything.
+#[cfg(feature = "std")]
 pub fn read_to_end<A: Allocator, I: Read>(
     alloc: A,
     input: &mut I,
@@ -57,6 +66,7 @@ pub fn read_to_end<A: Allocator, I: Read>(
 }
 
 /// Reads the next piece, and at most this many bytes.
+#[cfg(feature = "std")]
 fn read_piece_up_to<I: Read>(
     input: &mut I,
     buffer: &mut [u8; PIECE],
@@ -75,6 +85,7 @@ fn read_piece_up_to<I: Read>(
 /// - [`ReadFault::Failed`] if the input cannot be read, or with a text that says so if it is
 ///   longer, after one byte more than the limit was read;
 /// - [`ReadFault::Memory`] if an allocation for its bytes fails.
+#[cfg(feature = "std")]
 pub fn read_up_to<A: Allocator, I: Read>(
     alloc: A,
     input: &mut I,
@@ -100,6 +111,7 @@ pub fn read_up_to<A: Allocator, I: Read>(
 
 /// Why a file could not be opened. Most paths of a search have no file, so the system's text of
 /// that error is not looked up.
+#[cfg(feature = "std")]
 pub fn open_fault(error: io::Error) -> ReadFault {
     if error.raw_os_error() == Some(NO_SUCH_FILE) {
         return ReadFault::Failed(anyhow!("No such file or directory (os error 2)"));
@@ -116,6 +128,7 @@ pub fn open_fault(error: io::Error) -> ReadFault {
 ///
 /// - [`ReadFault::Failed`] if the file cannot be opened or read, such as a directory;
 /// - [`ReadFault::Memory`] if an allocation for its bytes fails.
+#[cfg(feature = "std")]
 pub fn read_file<R: Files>(rt: &R, alloc: Global, path: &str) -> Result<Vec<u8>, ReadFault> {
     match File::open(rt, path) {
         Ok(mut file) => read_to_end(alloc, &mut file, 0),
@@ -132,6 +145,7 @@ pub fn read_file<R: Files>(rt: &R, alloc: Global, path: &str) -> Result<Vec<u8>,
 ///
 /// Those of [`read_file`], and [`ReadFault::Failed`] with a text that says so if the file is
 /// longer, after one byte more than the limit was read.
+#[cfg(feature = "std")]
 pub fn read_file_up_to<R: Files>(
     rt: &R,
     alloc: Global,

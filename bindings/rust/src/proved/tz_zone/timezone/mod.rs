@@ -18,8 +18,10 @@ pub use crate::proved::tz_zone::clock::{Change, Segment};
 pub use crate::proved::tz_zone::leap::LeapSecond;
 pub use crate::proved::tz_zone::table::Transition;
 pub use changes::{ChangesAfter, ChangesBefore};
+#[cfg(feature = "std")]
 pub use files::{read_file, read_file_up_to, read_up_to};
 pub use settings::{DEFAULT_DIRECTORIES, TimeZoneSettings};
+#[cfg(feature = "alloc")]
 pub use zone::TimeZone;
 pub use zone_names::is_zone_name;
 pub use zone_ref::TimeZoneRef;

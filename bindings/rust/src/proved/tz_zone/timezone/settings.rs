@@ -2,13 +2,21 @@
 //! Settings: the files that a name means in directories, and the zone of a name, of the environment
 //! variable TZ's text or of the machine.
 
+#[cfg(feature = "alloc")]
 use super::TimeZone;
-use super::zone_names::{is_zone_name, no_such_zone, not_a_name};
-use crate::proved::tz_base::error::{Error, ReadFault, TzError, TzStringError};
+use super::zone_names::is_zone_name;
+#[cfg(feature = "alloc")]
+use super::zone_names::{no_such_zone, not_a_name};
+#[cfg(feature = "alloc")]
+use crate::proved::tz_base::error::ReadFault;
+use crate::proved::tz_base::error::{Error, TzError, TzStringError};
+#[cfg(feature = "alloc")]
 use crate::proved::tz_zone::parse::tz_string::zone_of_tz_string;
 use crate::shim::ArrayString;
 use crate::shim::alloc::{AllocError, Allocator};
+#[cfg(feature = "alloc")]
 use crate::shim::anyhow;
+#[cfg(feature = "alloc")]
 use crate::shim::{String, Vec};
 
 /// The directories in which systems keep their time zone files.
@@ -29,6 +37,7 @@ fn after_colon(text: &str) -> Option<&str> {
 }
 
 /// The zone of the bytes of a file.
+#[cfg(feature = "alloc")]
 fn zone_of_bytes<A: Allocator + Copy>(alloc: A, bytes: &[u8]) -> Result<TimeZone<A>, Error> {
     match TimeZone::from_tz_data(alloc, bytes) {
         Ok(zone) => Ok(zone),
@@ -37,6 +46,7 @@ fn zone_of_bytes<A: Allocator + Copy>(alloc: A, bytes: &[u8]) -> Result<TimeZone
 }
 
 /// The zone of the file that was found.
+#[cfg(feature = "alloc")]
 fn zone_of_found<A: Allocator + Copy>(
     alloc: A,
     found: Result<Vec<u8>, ReadFault>,
@@ -57,6 +67,7 @@ pub struct TimeZoneSettings<'a, F> {
     reader: F,
 }
 
+#[cfg(feature = "alloc")]
 impl<'a, F: Fn(&str) -> Result<Vec<u8>, ReadFault>> TimeZoneSettings<'a, F> {
     /// The settings with these directories, and with this function that reads a file.
     pub const fn new(directories: &'a [&'a str], reader: F) -> Self {
@@ -146,6 +157,7 @@ impl<'a, F: Fn(&str) -> Result<Vec<u8>, ReadFault>> TimeZoneSettings<'a, F> {
     }
 }
 
+#[cfg(feature = "alloc")]
 impl<A: Allocator + Copy> TimeZone<A> {
     /// The machine's local time zone: that of the TZif file at `/etc/localtime`, whose bytes the
     /// reader returns for this path.
@@ -260,6 +272,7 @@ fn usual_path<'p>(
 }
 
 /// The path of a name in a directory, in memory.
+#[cfg(feature = "alloc")]
 fn long_path<A: Allocator + Copy>(
     alloc: A,
     directory: &str,
@@ -272,6 +285,7 @@ fn long_path<A: Allocator + Copy>(
     Ok(path)
 }
 
+#[cfg(feature = "alloc")]
 impl<F: Fn(&str) -> Result<Vec<u8>, ReadFault>> TimeZoneSettings<'_, F> {
     /// What the reader returns for the path.
     fn read(&self, path: &str) -> Result<Vec<u8>, ReadFault> {

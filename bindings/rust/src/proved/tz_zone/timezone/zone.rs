@@ -5,11 +5,13 @@ use super::zone_checks::{check_parts, offset_range};
 use super::zone_data::lent;
 use super::{LeapSecond, LocalTimeType, TimeZoneRef, Transition, TransitionRule};
 use crate::proved::tz_base::error::TzError;
+#[cfg(feature = "alloc")]
 use crate::shim::Vec;
 use crate::shim::alloc::{Allocator, Global};
 use core::fmt;
 
 /// A time zone that owns its parts, on one allocator.
+#[cfg(feature = "alloc")]
 pub struct TimeZone<A: Allocator + Copy = Global> {
     transitions: Vec<Transition, A>,
     local_time_types: Vec<LocalTimeType, A>,
@@ -19,14 +21,17 @@ pub struct TimeZone<A: Allocator + Copy = Global> {
     greatest_offset: i32,
 }
 
+#[cfg(feature = "alloc")]
 impl<A: Allocator + Copy> PartialEq for TimeZone<A> {
     fn eq(&self, other: &TimeZone<A>) -> bool {
         self.as_ref() == other.as_ref()
     }
 }
 
+#[cfg(feature = "alloc")]
 impl<A: Allocator + Copy> Eq for TimeZone<A> {}
 
+#[cfg(feature = "alloc")]
 impl<A: Allocator + Copy> TimeZone<A> {
     /// The zone with these parts. (RFC 8536, section 3.2)
     ///
@@ -178,6 +183,7 @@ impl<A: Allocator + Copy> TimeZone<A> {
 }
 
 /// Prints the name of the type and the four parts.
+#[cfg(feature = "alloc")]
 impl<A: Allocator + Copy> fmt::Debug for TimeZone<A> {
     fn fmt(&self, f: &mut fmt::Formatter<'_>) -> fmt::Result {
         f.debug_struct("TimeZone")

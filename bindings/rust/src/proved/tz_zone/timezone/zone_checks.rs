@@ -23,15 +23,18 @@ const fn rises_at(transitions: &[Transition], index: usize) -> bool {
 
 /// Each transition names one of the types, whose number is given, and comes before the next one.
 const fn check_transitions(transitions: &[Transition], types: usize) -> Result<(), TimeZoneError> {
-    let mut i = 0;
-    while i < transitions.len() {
-        if !has_type_at(transitions, types, i) {
-            return Err(TimeZoneError::InvalidLocalTimeTypeIndex);
+    {
+        let mut i = 0;
+        let i_end = transitions.len();
+        while i < i_end {
+            if !has_type_at(transitions, types, i) {
+                return Err(TimeZoneError::InvalidLocalTimeTypeIndex);
+            }
+            if !rises_at(transitions, i) {
+                return Err(TimeZoneError::InvalidTransition);
+            }
+            i += 1;
         }
-        if !rises_at(transitions, i) {
-            return Err(TimeZoneError::InvalidTransition);
-        }
-        i += 1;
     }
     Ok(())
 }
@@ -107,12 +110,15 @@ const fn with_offset(least: i32, greatest: i32, offset: i32) -> (i32, i32) {
 const fn offsets_of_types(local_time_types: &[LocalTimeType]) -> (i32, i32) {
     let first = local_time_types[0].ut_offset();
     let (mut least, mut greatest) = (first, first);
-    let mut index = 0;
-    while index < local_time_types.len() {
-        let ends = with_offset(least, greatest, local_time_types[index].ut_offset());
-        least = ends.0;
-        greatest = ends.1;
-        index += 1;
+    {
+        let mut index = 0;
+        let index_end = local_time_types.len();
+        while index < index_end {
+            let ends = with_offset(least, greatest, local_time_types[index].ut_offset());
+            least = ends.0;
+            greatest = ends.1;
+            index += 1;
+        }
     }
     (least, greatest)
 }

@@ -1,6 +1,7 @@
 // Generated from crates/tz_zone/src/timezone/zone_names.rt by bindings/erase: its contracts are cut. Change that file instead.
 //! Names of time zones.
 
+#[cfg(feature = "alloc")]
 use crate::shim::anyhow;
 
 /// Whether a name may have the byte.
@@ -35,11 +36,13 @@ pub fn is_zone_name(name: &str) -> bool {
 }
 
 /// The error of a text that is no name.
+#[cfg(feature = "alloc")]
 pub(super) fn not_a_name(text: &str) -> crate::shim::anyhow::Error {
     anyhow!("not a time zone name: {text}")
 }
 
 /// The error of a name that no zone has.
+#[cfg(feature = "alloc")]
 pub(super) fn no_such_zone(name: &str) -> crate::shim::anyhow::Error {
     anyhow!("no time zone has the name {name}")
 }

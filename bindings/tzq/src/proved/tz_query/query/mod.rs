@@ -3,7 +3,7 @@
 
 mod answers;
 mod output;
-mod program;
+pub(crate) mod program;
 mod read_query;
 
 pub use answers::{answer, answer_tzif};

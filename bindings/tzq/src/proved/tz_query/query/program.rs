@@ -64,14 +64,14 @@ fn zone_of_arguments<A: Allocator + Copy, F: Fn(&str) -> Result<Vec<u8>, ReadFau
 }
 
 /// Prints the line of a failure, as far as it can be written, and returns its status.
-fn fail<E: Write>(err: &mut E, line: &str) -> u8 {
+pub(crate) fn fail<E: Write>(err: &mut E, line: &str) -> u8 {
     // An error of the error output has nowhere to be told.
     let _ = write_front(err, line.as_bytes());
     1
 }
 
 /// The line of a run that ends without all answers.
-fn line_of(fault: RunFault) -> &'static str {
+pub(crate) fn line_of(fault: RunFault) -> &'static str {
     match fault {
         RunFault::Read => "tzq: cannot read queries\n",
         RunFault::Memory => "tzq: no memory\n",

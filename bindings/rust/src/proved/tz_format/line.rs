@@ -1,0 +1,64 @@
+// Generated from crates/tz_format/src/line.rt by bindings/erase: its contracts are cut. Change that file instead.
+//! A line of text, as it is printed.
+
+/// Bytes of a line, at most 128. They are text once all of them stand there: those of one
+/// character come one by one.
+pub(crate) struct Line {
+    bytes: [u8; 128],
+    len: usize,
+}
+
+/// The two digits of a number below 100.
+fn pair_of(number: u8) -> [u8; 2] {
+    [b'0' + number / 10, b'0' + number % 10]
+}
+
+impl Line {
+    /// An empty line.
+    pub(crate) fn new() -> Self {
+        Line {
+            bytes: [0; 128],
+            len: 0,
+        }
+    }
+
+    /// The bytes.
+    pub(crate) fn as_bytes(&self) -> &[u8] {
+        &self.bytes[..self.len]
+    }
+
+    /// The text.
+    pub(crate) fn as_str(&self) -> &str {
+        crate::shim::text(self.as_bytes())
+    }
+
+    /// Appends a byte.
+    pub(crate) fn push(&mut self, byte: u8) {
+        self.bytes[self.len] = byte;
+        self.len += 1;
+    }
+
+    /// Appends bytes.
+    pub(crate) fn push_all(&mut self, bytes: &[u8]) {
+        let end = self.len + bytes.len();
+        self.bytes[self.len..end].copy_from_slice(bytes);
+        self.len = end;
+    }
+
+    /// Appends a number below 100 as two digits.
+    pub(crate) fn push_two_digits(&mut self, number: u8) {
+        self.push_all(&pair_of(number));
+    }
+
+    /// Appends the digits of a number.
+    pub(crate) fn push_digits(&mut self, number: u64) {
+        if number < 10 {
+            self.push(b'0' + number as u8);
+        } else if number < 100 {
+            self.push_two_digits(number as u8);
+        } else {
+            self.push_digits(number / 100);
+            self.push_two_digits((number % 100) as u8);
+        }
+    }
+}

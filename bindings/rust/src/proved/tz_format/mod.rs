@@ -1,0 +1,13 @@
+// Generated from crates/tz_format/src/lib.rt by bindings/erase: its contracts are cut. Change that file instead.
+//! Date times printed by patterns.
+
+mod conversion;
+mod formatted;
+mod line;
+mod moment;
+mod pattern;
+mod print;
+mod weeks;
+
+pub use crate::proved::tz_format::formatted::{FormattedDateTime, FormattedUtcDateTime};
+pub use crate::proved::tz_format::pattern::{Pattern, PatternError, UtcPattern};

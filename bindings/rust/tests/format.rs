@@ -1,0 +1,298 @@
+//! Patterns: what each conversion prints, and which texts are patterns.
+#![cfg(feature = "alloc")]
+
+use tz::format::{Pattern, PatternError, UtcPattern};
+use tz::{DateTime, LocalTimeType, UtcDateTime, pattern};
+
+/// What a pattern prints of a date time of UTC.
+fn printed(utc: UtcDateTime, text: &str) -> String {
+    utc.format(Pattern::new(text).unwrap()).to_string()
+}
+
+fn utc(year: i32, month: u8, day: u8, hour: u8, minute: u8, second: u8) -> UtcDateTime {
+    UtcDateTime::new(year, month, day, hour, minute, second, 0).unwrap()
+}
+
+/// What a pattern prints with an offset and a name.
+fn printed_at(offset: i32, name: Option<&[u8]>, text: &str) -> String {
+    let local_time_type = LocalTimeType::new(offset, false, name).unwrap();
+    let date_time =
+        DateTime::from_timespec_and_local(973_224_367, 89_012_345, local_time_type).unwrap();
+    date_time.format(Pattern::new(text).unwrap()).to_string()
+}
+
+/// The conversions that glibc has too, but that of the year.
+const CONVERSIONS: &str =
+    "%y %m %B %b %h %d %e %j %H %k %I %p %M %S %A %a %u %w %V %G %g %U %W %D %T %R";
+
+type Row = ((i32, u8, u8, u8, u8, u8), &'static str);
+
+/// What glibc 2.36 prints by these conversions, in the locale of C.
+#[rustfmt::skip]
+const ROWS: [Row; 10] = [
+    ((2000, 11, 3, 5, 6, 7), "00 11 November Nov Nov 03  3 308 05  5 05 AM 06 07 Friday Fri 5 5 44 2000 00 44 44 11/03/00 05:06:07 05:06"),
+    ((1999, 12, 31, 23, 59, 59), "99 12 December Dec Dec 31 31 365 23 23 11 PM 59 59 Friday Fri 5 5 52 1999 99 52 52 12/31/99 23:59:59 23:59"),
+    ((2024, 2, 29, 0, 0, 0), "24 02 February Feb Feb 29 29 060 00  0 12 AM 00 00 Thursday Thu 4 4 09 2024 24 08 09 02/29/24 00:00:00 00:00"),
+    ((2021, 1, 3, 12, 0, 0), "21 01 January Jan Jan 03  3 003 12 12 12 PM 00 00 Sunday Sun 7 0 53 2020 20 01 00 01/03/21 12:00:00 12:00"),
+    ((2027, 1, 1, 12, 30, 1), "27 01 January Jan Jan 01  1 001 12 12 12 PM 30 01 Friday Fri 5 5 53 2026 26 00 00 01/01/27 12:30:01 12:30"),
+    ((2008, 12, 29, 13, 4, 60), "08 12 December Dec Dec 29 29 364 13 13 01 PM 04 60 Monday Mon 1 1 01 2009 09 52 52 12/29/08 13:04:60 13:04"),
+    ((1970, 1, 1, 0, 0, 0), "70 01 January Jan Jan 01  1 001 00  0 12 AM 00 00 Thursday Thu 4 4 01 1970 70 00 00 01/01/70 00:00:00 00:00"),
+    ((2020, 12, 31, 11, 59, 59), "20 12 December Dec Dec 31 31 366 11 11 11 AM 59 59 Thursday Thu 4 4 53 2020 20 52 52 12/31/20 11:59:59 11:59"),
+    ((1000, 1, 1, 1, 1, 1), "00 01 January Jan Jan 01  1 001 01  1 01 AM 01 01 Wednesday Wed 3 3 01 1000 00 00 00 01/01/00 01:01:01 01:01"),
+    ((9999, 12, 31, 23, 59, 59), "99 12 December Dec Dec 31 31 365 23 23 11 PM 59 59 Friday Fri 5 5 52 9999 99 52 52 12/31/99 23:59:59 23:59"),
+];
+
+#[test]
+fn conversions_print_what_glibc_prints() {
+    for ((year, month, day, hour, minute, second), expected) in ROWS {
+        let date_time = utc(year, month, day, hour, minute, second);
+        let texts: Vec<_> = CONVERSIONS
+            .split(' ')
+            .map(|conversion| printed(date_time, conversion))
+            .collect();
+        assert_eq!(texts.join(" "), expected, "{date_time}");
+    }
+}
+
+#[test]
+fn years_have_four_digits_or_more() {
+    let rows = [
+        (i32::MIN, "-2147483648", "52"),
+        (-10_000, "-10000", "00"),
+        (-5, "-0005", "95"),
+        (-1, "-0001", "99"),
+        (0, "0000", "00"),
+        (5, "0005", "05"),
+        (637, "0637", "37"),
+        (9999, "9999", "99"),
+        (10_000, "10000", "00"),
+        (i32::MAX, "2147483647", "47"),
+    ];
+    for (year, text, century) in rows {
+        let date_time = utc(year, 7, 1, 0, 0, 0);
+        assert_eq!(printed(date_time, "%Y %G"), format!("{text} {text}"));
+        assert_eq!(printed(date_time, "%y %g"), format!("{century} {century}"));
+        assert_eq!(printed(date_time, "%F"), format!("{text}-07-01"));
+        assert_eq!(printed(date_time, "%D"), format!("07/01/{century}"));
+    }
+    // The first day and the last are Tuesdays: the last is in week 1 of a year past the end.
+    assert_eq!(
+        printed(UtcDateTime::MIN, "%a %G-W%V %j %U %W"),
+        "Tue -2147483648-W01 001 00 00"
+    );
+    assert_eq!(
+        printed(UtcDateTime::MAX, "%a %G-W%V %j"),
+        "Tue 2147483648-W01 365"
+    );
+}
+
+#[test]
+fn fractions_are_cut() {
+    let texts = [
+        ("%3f", "999"),
+        ("%6f", "999999"),
+        ("%9f", "999999999"),
+        ("%.3f", ".999"),
+        ("%.6f", ".999999"),
+        ("%.9f", ".999999999"),
+    ];
+    for (text, expected) in texts {
+        assert_eq!(printed(UtcDateTime::MAX, text), expected);
+    }
+    let early = UtcDateTime::new(2000, 1, 1, 0, 0, 0, 1_002_003).unwrap();
+    assert_eq!(
+        printed(early, "%3f %6f %9f %.3f %.6f %.9f"),
+        "001 001002 001002003 .001 .001002 .001002003"
+    );
+}
+
+#[test]
+fn offsets_lose_their_seconds() {
+    let rows = [
+        (0, "+0000", "+00:00"),
+        (3600, "+0100", "+01:00"),
+        (-25_200, "-0700", "-07:00"),
+        (-59, "-0000", "-00:00"),
+        (59, "+0000", "+00:00"),
+        (3599, "+0059", "+00:59"),
+        (89_999, "+2459", "+24:59"),
+        (-89_999, "-2459", "-24:59"),
+        (360_000, "+10000", "+100:00"),
+        (i32::MAX, "+59652314", "+596523:14"),
+        (-i32::MAX, "-59652314", "-596523:14"),
+    ];
+    for (offset, text, with_colon) in rows {
+        assert_eq!(printed_at(offset, None, "%z"), text);
+        assert_eq!(printed_at(offset, None, "%:z"), with_colon);
+        assert_eq!(printed_at(offset, None, "%Z"), with_colon);
+        assert_eq!(printed_at(offset, Some(b"ABC"), "%Z"), "ABC");
+    }
+    assert_eq!(printed_at(0, Some(b"AB+CD-E"), "<%Z>"), "<AB+CD-E>");
+    assert_eq!(
+        printed(UtcDateTime::UNIX_EPOCH, "%Z %z %:z"),
+        "UTC +0000 +00:00"
+    );
+}
+
+#[test]
+fn unix_times_are_signed() {
+    assert_eq!(printed(UtcDateTime::MIN, "%s"), "-67768100567971200");
+    assert_eq!(printed(utc(1969, 12, 31, 23, 59, 59), "%s"), "-1");
+    assert_eq!(printed(UtcDateTime::UNIX_EPOCH, "%s"), "0");
+    assert_eq!(printed(UtcDateTime::MAX, "%s"), "67767976233532799");
+    // The clock's offset plays no part.
+    assert_eq!(printed_at(3600, None, "%s"), "973224367");
+}
+
+#[test]
+fn other_characters_stand_for_themselves() {
+    let date_time = utc(2000, 11, 3, 5, 6, 7);
+    assert_eq!(printed(date_time, ""), "");
+    assert_eq!(printed(date_time, "%Y年%m月%d日"), "2000年11月03日");
+    assert_eq!(printed(date_time, "é%%è%n%tß\0"), "é%è\n\tß\0");
+    assert_eq!(printed(date_time, "le %d à %Hh%M, 🕔"), "le 03 à 05h06, 🕔");
+}
+
+#[test]
+fn constants_print_the_examples_of_their_standards() {
+    let local_time_type = LocalTimeType::with_ut_offset(-21_600).unwrap();
+    let sent = DateTime::from_timespec_and_local(880_127_706, 0, local_time_type).unwrap();
+    // RFC 2822, appendix A.1.1.
+    assert_eq!(
+        sent.format(Pattern::RFC_2822).to_string(),
+        "Fri, 21 Nov 1997 09:55:06 -0600"
+    );
+    // RFC 9110, section 5.6.7.
+    let http = utc(1994, 11, 6, 8, 49, 37);
+    assert_eq!(
+        http.format(UtcPattern::HTTP_DATE).to_string(),
+        "Sun, 06 Nov 1994 08:49:37 GMT"
+    );
+    // Apache's page on log files.
+    let local_time_type = LocalTimeType::with_ut_offset(-25_200).unwrap();
+    let logged = DateTime::from_timespec_and_local(971_211_336, 0, local_time_type).unwrap();
+    assert_eq!(
+        logged.format(Pattern::COMMON_LOG).to_string(),
+        "10/Oct/2000:13:55:36 -0700"
+    );
+    // RFC 3339, section 5.8.
+    let local_time_type = LocalTimeType::with_ut_offset(1200).unwrap();
+    let noon = DateTime::new(1937, 1, 1, 12, 0, 27, 870_000_000, local_time_type).unwrap();
+    assert_eq!(
+        noon.format(Pattern::RFC_3339_MILLIS).to_string(),
+        "1937-01-01T12:00:27.870+00:20"
+    );
+    let constants = [
+        Pattern::RFC_2822,
+        Pattern::RFC_3339_MILLIS,
+        Pattern::COMMON_LOG,
+        UtcPattern::HTTP_DATE.pattern(),
+    ];
+    for constant in constants {
+        assert_eq!(Pattern::new(constant.as_str()), Ok(constant));
+    }
+}
+
+#[test]
+fn a_pattern_prints_what_display_does() {
+    const LIKE_DISPLAY: Pattern<'static> = pattern!("%Y-%m-%dT%H:%M:%S%.9f%:z");
+    for unix_time in (-93_000_000_000..250_000_000_000).step_by(1_234_567_891) {
+        for offset in [3600, -25_200, 89_940] {
+            let local_time_type = LocalTimeType::with_ut_offset(offset).unwrap();
+            let date_time =
+                DateTime::from_timespec_and_local(unix_time, 5_000, local_time_type).unwrap();
+            if date_time.year() >= 1000 || date_time.year() <= -1000 {
+                assert_eq!(
+                    date_time.format(LIKE_DISPLAY).to_string(),
+                    date_time.to_string()
+                );
+            }
+        }
+    }
+}
+
+#[test]
+fn texts_are_refused_at_their_first_unknown_conversion() {
+    let rows = [
+        ("%", 0),
+        ("%Q", 0),
+        ("%Y%", 2),
+        ("%Y %m %Q %J", 6),
+        ("%3", 0),
+        ("%.3", 0),
+        ("%3d", 0),
+        ("%.f", 0),
+        ("%.4f", 0),
+        ("%4f", 0),
+        ("%f", 0),
+        ("%:", 0),
+        ("%:Z", 0),
+        ("%::z", 0),
+        ("%E", 0),
+        ("%-d", 0),
+        ("%C", 0),
+        ("%\0", 0),
+        ("%é", 0),
+        ("日%Q", 3),
+        ("%%%", 2),
+    ];
+    for (text, position) in rows {
+        assert_eq!(
+            Pattern::new(text),
+            Err(PatternError::UnknownConversion { position }),
+            "{text}"
+        );
+    }
+    assert_eq!(
+        Pattern::new("%Q").unwrap_err().to_string(),
+        "no conversion begins at byte 0"
+    );
+    for byte in 0..128_u8 {
+        let text = format!("%{}", char::from(byte));
+        let known = b"YyGgmBbhdejHkIpMSAauwVUWszZFDTRnt%".contains(&byte);
+        assert_eq!(Pattern::new(&text).is_ok(), known, "{text}");
+    }
+}
+
+#[test]
+fn a_pattern_prints_128_bytes_at_most() {
+    // The widest text of each conversion, which a Wednesday in September of the first years has.
+    let local_time_type = LocalTimeType::with_ut_offset(-i32::MAX).unwrap();
+    let wide = DateTime::new(-2_147_483_600, 9, 20, 12, 0, 0, 0, local_time_type).unwrap();
+    assert_eq!(wide.week_day(), 3, "{wide}");
+    for conversion in "Y y G g m B b h d e j H k I p M S A a u w V U W s z Z F D T R n t % :z 3f 6f 9f .3f .6f .9f".split(' ') {
+        let text = format!("%{conversion}");
+        let pattern = Pattern::new(&text).unwrap();
+        assert_eq!(wide.format(pattern).to_string().len(), pattern.max_len(), "{text}");
+    }
+    for (text, len) in [
+        ("%A".repeat(14) + "ab", 128),
+        ("a".repeat(128), 128),
+        ("%Y".repeat(11) + "%w%w%w%w%w%w%w", 128),
+    ] {
+        assert_eq!(Pattern::new(&text).map(|it| it.max_len()), Ok(len));
+        let longer = text.clone() + "x";
+        assert_eq!(Pattern::new(&longer), Err(PatternError::TooLong));
+        // An unknown conversion is named before the length.
+        let unknown = longer.clone() + "%Q";
+        assert_eq!(
+            Pattern::new(&unknown),
+            Err(PatternError::UnknownConversion {
+                position: longer.len()
+            })
+        );
+    }
+    assert_eq!(
+        PatternError::TooLong.to_string(),
+        "a pattern that prints more than 128 bytes"
+    );
+}
+
+#[test]
+fn widths_of_formats_play_no_part() {
+    let date_time = utc(2000, 1, 2, 3, 4, 5);
+    assert_eq!(
+        format!("<{:>30}>", date_time.format(pattern!("%F"))),
+        "<2000-01-02>"
+    );
+}
