@@ -120,6 +120,103 @@ static void test_rules(void) {
   EXPECT(type.ut_offset, 0);
 }
 
+/* Parts that conflict as they stand, and would make a rule if types, days or times were exchanged. */
+static void test_conflicts(void) {
+  const tz_local_time_type std = type_of(3600, false, "STD"), dst = type_of(0, true, "DST");
+  tz_day start = {0}, end = {0};
+  tz_conflict conflict = {0};
+  tz_alternate rule = {0};
+  /* March 1st, and the day that is it in common years and February 29th in leap years. */
+  CODE(tz_julian_1_new(60, &start), TZ_OK);
+  CODE(tz_julian_0_new(59, &end), TZ_OK);
+  CODE(tz_alternate_conflict(&std, &dst, &start, 0, &end, 4000, &conflict), TZ_OK);
+  EXPECT(conflict.distance, 0);
+  /* The start comes after the end in the first year, and before it in the second. */
+  const int32_t years[] = {conflict.first_year, conflict.second_year};
+  for (size_t i = 0; i < 2; i++) {
+    const tz_fields leap_day = fields_of(years[i], 2, 29, 0, 0, 0, 0);
+    tz_utc utc = TZ_UTC_EPOCH;
+    CODE(tz_utc_new(&leap_day, &utc), i == 0 ? TZ_OK : TZ_INVALID_MONTH_DAY);
+  }
+  REFUSED(tz_alternate_new(&std, &dst, &start, 0, &end, 4000, &rule), TZ_INCONSISTENT_RULE, rule);
+  REFUSED(tz_alternate_conflict(&std, &dst, &end, 0, &start, 4000, &conflict), TZ_NO_CONFLICT, conflict);
+  REFUSED(tz_alternate_conflict(&std, &dst, &start, 4000, &end, 0, &conflict), TZ_NO_CONFLICT, conflict);
+  CODE(tz_alternate_new(&std, &dst, &end, 0, &start, 4000, &rule), TZ_OK);
+  CODE(tz_alternate_new(&std, &dst, &start, 4000, &end, 0, &rule), TZ_OK);
+  CODE(tz_alternate_conflict(&std, &dst, &start, 0, &end, 1000, &conflict), TZ_OK);
+  REFUSED(tz_alternate_new(&std, &dst, &start, 0, &end, 1000, &rule), TZ_INCONSISTENT_RULE, rule);
+  REFUSED(tz_alternate_conflict(&dst, &std, &start, 0, &end, 1000, &conflict), TZ_NO_CONFLICT, conflict);
+  CODE(tz_alternate_new(&dst, &std, &start, 0, &end, 1000, &rule), TZ_OK);
+}
+
+/* A call may write to what it reads, and what an out parameter holds before the call plays no part. */
+static void test_outs(void) {
+  made_zone made;
+  make_zone(&made);
+  const tz_zone *zone = &made.zone;
+  tz_utc utc;
+  memset(&utc, 255, sizeof utc);
+  CODE(tz_utc_from_timespec(-1, 7, &utc), TZ_OK);
+  CODE(tz_utc_add(&utc, 1, 999999993, &utc), TZ_OK);
+  EXPECT(utc.unix_time, 1);
+  EXPECT(utc.fields.second, 1);
+  EXPECT(utc.fields.nanoseconds, 0);
+  CODE(tz_utc_sub(&utc, 2, 1, &utc), TZ_OK);
+  EXPECT(utc.unix_time, -2);
+  EXPECT(utc.fields.nanoseconds, 999999999);
+  REFUSED(tz_utc_add(&utc, UINT64_MAX, 0, &utc), TZ_OUT_OF_RANGE, utc);
+  REFUSED(tz_utc_sub(&utc, 0, 1000000000, &utc), TZ_INVALID_NANOSECONDS, utc);
+  utc.fields = fields_of(2000, 1, 1, 0, 0, 0, 3);
+  CODE(tz_utc_new(&utc.fields, &utc), TZ_OK);
+  EXPECT(utc.unix_time, 946684800);
+  EXPECT(utc.fields.nanoseconds, 3);
+
+  tz_date_time shown;
+  memset(&shown, 255, sizeof shown);
+  CODE(tz_date_time_from_timespec(954032399, 5, zone, &shown), TZ_OK);
+  EXPECT(shown.fields.hour, 1);
+  CODE(tz_date_time_from_timespec_and_local(954032400, 6, &shown.local_time_type, &shown), TZ_OK);
+  EXPECT(shown.fields.hour, 2);
+  EXPECT(shown.fields.nanoseconds, 6);
+  CODE(tz_date_time_new(&shown.fields, &shown.local_time_type, &shown), TZ_OK);
+  EXPECT(shown.unix_time, 954032400);
+  EXPECT(shown.local_time_type.ut_offset, 3600);
+  CODE(tz_find_one(&shown.fields, TZ_COMPATIBLE, zone, &shown), TZ_OK);
+  EXPECT(shown.unix_time, 954032400);
+  EXPECT(shown.fields.hour, 3);
+  EXPECT(shown.local_time_type.ut_offset, 7200);
+
+  tz_alternate rule = made.rule;
+  rule.dst_start = week_day_of(4, 1, 0);
+  rule.types[1] = type_of(5400, true, "DST");
+  CODE(tz_alternate_new(&rule.types[0], &rule.types[1], &rule.dst_start, 0, &rule.dst_end, 3600, &rule), TZ_OK);
+  EXPECT(rule.types[1].ut_offset, 5400);
+  EXPECT(rule.dst_end_time, 3600);
+  EXPECT(rule.dst_start.month, 4);
+  EXPECT(rule.dst_end.month, 10);
+  /* 2000-04-01T23:00:00Z, at which that rule starts. */
+  CODE(tz_rule_type_at(NULL, 0, &rule, 1, 954630000, &rule.types[0]), TZ_OK);
+  EXPECT(rule.types[0].ut_offset, 5400);
+  tz_local_time_type type = type_of(-7, false, NULL);
+  CODE(tz_rule_type_at(&type, 1, NULL, 0, 0, &type), TZ_OK);
+  EXPECT(type.ut_offset, -7);
+
+  made_zone other;
+  make_zone(&other);
+  memset(&other.zone.offsets, 255, sizeof other.zone.offsets);
+  CODE(tz_zone_check(&other.zone.parts, &other.zone.offsets), TZ_OK);
+  EXPECT(other.zone.offsets.least, zone->offsets.least);
+  EXPECT(other.zone.offsets.greatest, zone->offsets.greatest);
+  tz_segment segment;
+  memset(&segment, 255, sizeof segment);
+  CODE(tz_zone_segment_at(zone, INT64_MAX, &segment), TZ_OK);
+  EXPECT(segment.has_type, false);
+  EXPECT(segment.local_time_type.ut_offset, 0);
+  int64_t instant;
+  CODE(tz_zone_effect(zone, 954032400, &instant), TZ_OK);
+  EXPECT(instant, 954032400);
+}
+
 static void test_utc(void) {
   tz_utc utc = {0}, other = {0};
   tz_fields fields = fields_of(2000, 2, 29, 23, 59, 60, 999999999);
@@ -448,6 +545,14 @@ static void test_names(void) {
   for (size_t i = 0; i < sizeof names / sizeof *names; i++) CODE(tz_name_check(names[i], strlen(names[i])), TZ_OK);
   for (size_t i = 0; i < sizeof others / sizeof *others; i++) CODE(tz_name_check(others[i], strlen(others[i])), TZ_INVALID_NAME);
   CODE(tz_name_check(NULL, 0), TZ_INVALID_NAME);
+  /* A name of any length, whose last byte decides. */
+  char name[200];
+  for (size_t n = 1; n <= sizeof name; n++) {
+    memset(name, 'A', sizeof name);
+    CODE(tz_name_check(name, n), TZ_OK);
+    name[n - 1] = ' ';
+    CODE(tz_name_check(name, n), TZ_INVALID_NAME);
+  }
 }
 
 static void test_settings(void) {
@@ -599,6 +704,35 @@ static void test_zones(void) {
   REFUSED(tz_zone_following(&still, INT64_MIN, &change), TZ_NO_CHANGE, change);
 }
 
+/* A rule holds where there are no transitions, each list having its own length. */
+static void test_rules_alone(void) {
+  const tz_local_time_type type = type_of(0, false, NULL), fixed = type_of(5400, false, "FIX");
+  const tz_alternate rule = europe();
+  const tz_leap_second leaps[] = {{78796800, 1}, {94694401, 2}};
+  for (int i = 0; i < 2; i++) {
+    tz_zone zone;
+    memset(&zone, 0, sizeof zone);
+    zone.parts.types = &type;
+    zone.parts.types_length = 1;
+    zone.parts.leap_seconds = leaps;
+    zone.parts.leap_seconds_length = 2;
+    if (i == 0) zone.parts.fixed = &fixed, zone.parts.fixed_length = 1;
+    if (i == 1) zone.parts.alternate = &rule, zone.parts.alternate_length = 1;
+    CODE(tz_zone_check(&zone.parts, &zone.offsets), TZ_OK);
+    EXPECT(zone.offsets.least, 0);
+    EXPECT(zone.offsets.greatest, i == 0 ? 5400 : 7200);
+    tz_local_time_type found = {0};
+    CODE(tz_zone_type_at(&zone, 0, &found), TZ_OK);
+    EXPECT(found.ut_offset, i == 0 ? 5400 : 3600);
+    size_t place = 0;
+    CODE(tz_zone_place_at(&zone, 0, &place), TZ_OK);
+    EXPECT(place, 1);
+    int64_t leap_time = 0;
+    CODE(tz_zone_leap_time(&zone, 94694400, &leap_time), TZ_OK);
+    EXPECT(leap_time, 94694402);
+  }
+}
+
 /* A clock that shows 00:00 five times: it is set back an hour each hour. */
 static void test_many_entries(void) {
   static tz_transition transitions[5];
@@ -626,6 +760,26 @@ static void test_many_entries(void) {
       }
     }
   }
+}
+
+/* Half an hour before the end of all years a clock shows a time that is skipped later, in the next
+   year: the search is refused, and its first entry is not written. */
+static void test_search_past_the_end(void) {
+  const int64_t end = 67767976233532800;
+  const tz_local_time_type types[] = {type_of(0, false, NULL), type_of(-3600, false, NULL), type_of(7200, false, NULL)};
+  const tz_transition transitions[] = {{end - 900, 1}, {end + 900, 2}};
+  tz_zone zone = {{transitions, 2, types, 3, NULL, 0, &types[2], 1, NULL, 0}, {0, 0}};
+  CODE(tz_zone_check(&zone.parts, &zone.offsets), TZ_OK);
+  tz_fields fields = fields_of(INT32_MAX, 12, 31, 23, 30, 0, 0);
+  tz_found slots[2];
+  size_t count = 77;
+  memset(slots, 0, sizeof slots);
+  REFUSED(tz_find_n(&fields, &zone, 0, slots, 2, &count), TZ_OUT_OF_RANGE, slots);
+  EXPECT(count, 77);
+  fields.minute = 29;
+  fields.hour = 22;
+  CODE(tz_find_n(&fields, &zone, 0, slots, 2, &count), TZ_OK);
+  EXPECT(count, 1);
 }
 
 static void test_searches(void) {
@@ -836,6 +990,8 @@ int main(int argc, char **argv) {
   test_types();
   test_days();
   test_rules();
+  test_conflicts();
+  test_outs();
   test_utc();
   test_date_times();
   test_texts();
@@ -846,7 +1002,9 @@ int main(int argc, char **argv) {
   test_settings();
   test_zone_checks();
   test_zones();
+  test_rules_alone();
   test_many_entries();
+  test_search_past_the_end();
   test_searches();
   test_columns();
   test_null();

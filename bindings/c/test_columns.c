@@ -83,6 +83,19 @@ static void test_refused_columns(const tz_zone *zone) {
   REFUSED(tz_column_instants(fields, 2, TZ_LATER, zone, out.instants, 1, out.codes, 2), TZ_BUFFER_LENGTH, out);
   REFUSED(tz_column_instants(fields, 1, TZ_LATER, zone, out.instants, 1, out.codes, 2), TZ_BUFFER_LENGTH, out);
   REFUSED(tz_column_instants(fields, 2, 4, zone, out.instants, 2, out.codes, 2), TZ_UNKNOWN_CHOICE, out);
+  /* Each column in turn is longer, and shorter, than all others. */
+  for (size_t k = 0; k < 4; k++) {
+    for (size_t n = 0; n <= 2; n++) {
+      if (n == 1) continue;
+      size_t lengths[] = {1, 1, 1, 1};
+      lengths[k] = n;
+      const size_t *a = lengths;
+      REFUSED(tz_column_date_times(instants, a[0], nanoseconds, a[1], zone, out.shown, a[2], out.codes, a[3]), TZ_BUFFER_LENGTH, out);
+      if (k == 3) continue;
+      REFUSED(tz_column_offsets(instants, a[0], zone, out.offsets, a[1], out.codes, a[2]), TZ_BUFFER_LENGTH, out);
+      REFUSED(tz_column_instants(fields, a[0], TZ_LATER, zone, out.instants, a[1], out.codes, a[2]), TZ_BUFFER_LENGTH, out);
+    }
+  }
 }
 
 void test_columns(void) {

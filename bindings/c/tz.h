@@ -6,12 +6,12 @@
  *
  * - Pointers. A pointer, as a parameter or in a `tz_parts`, is not null, is aligned, and points to one value, or, if a length follows it, to that
  *   many. With length 0 it may be null, in a `tz_parts` too.
- * - Overlap. What a call writes overlaps nothing else that the call is given: no other parameter, and no table of a zone. What it only reads may
- *   overlap.
+ * - Overlap. A list that a call writes overlaps nothing else that the call is given: no other parameter, and no table of a zone. One value that it
+ *   writes may be one that it reads, as in `tz_utc_add(&utc, 1, 0, &utc)`, but no other that it writes. What it only reads may overlap.
  * - Values. A `bool` is 0 or 1. A `tz_local_time_type`, `tz_day`, `tz_alternate`, `tz_rule`, `tz_utc` or `tz_date_time` that a call reads is
  *   as a call wrote it, or a copy. All zeros are valid too, but for `tz_utc` and `tz_date_time`: there TZ_UTC_EPOCH and TZ_DATE_TIME_EPOCH are.
- * - What a call writes to holds all zeros or such a value before the call, so `= {0}` serves for every out parameter and every buffer. Texts,
- *   transitions, leap seconds, and columns of numbers may hold anything.
+ * - Before the call one value that it writes may hold anything, and need not be initialized. A list that it writes is initialized: it holds all
+ *   zeros or values as above, so that `= {0}` serves for each, and texts, transitions, leap seconds and columns of numbers hold any values.
  * - Zones. The offsets of a `tz_zone` are those that `tz_zone_check` or `tz_file_read` wrote for its very parts, which stay as they are while
  *   the zone is used. If a table changes, or the offsets are others, a call that is given the zone has undefined behaviour: no call checks the parts
  *   again. Parts may lie in read-only memory, and any number of threads may read one zone.
