@@ -1,5 +1,6 @@
 """The zones in the library, which serve where the machine has no file."""
 
+import ctypes
 import pickle
 import unittest
 import zoneinfo
@@ -11,6 +12,7 @@ from test_zone import search_path
 from tz import ZoneInfo, ZoneInfoNotFoundError, _library
 
 YEAR_2200 = 7258118400
+OUT_OF_RANGE = 1
 
 
 def spans(zone):
@@ -44,6 +46,11 @@ class BuiltIn(unittest.TestCase):
             names = tz.available_timezones()
             self.assertEqual(names, _library.built_in_names())
         self.assertGreater(len(names), 500)
+        # Each place before the end has a name, and no two have the same.
+        text, length = ctypes.create_string_buffer(128), ctypes.c_size_t()
+        for place, code in ((len(names) - 1, _library.OK), (len(names), OUT_OF_RANGE)):
+            arguments = place, text, len(text), ctypes.byref(length)
+            self.assertEqual(_library._built_in_name(*arguments), code)
         self.assertTrue({"Europe/Paris", "UTC", "America/Argentina/Ushuaia"} <= names)
         self.assertNotIn("Europe/Paris", names - tz.available_timezones())
         for name in ("Europe/Pariss", "europe/paris", "Europe", "posixrules"):

@@ -3,9 +3,12 @@
 import ctypes
 import mmap
 import random
+import subprocess
+import sys
 import tempfile
 import unittest
 from array import array
+from concurrent.futures import ThreadPoolExecutor
 from datetime import datetime, timedelta
 
 from tz import LocalTime, TzError, ZoneInfo, _columns
@@ -110,6 +113,18 @@ class Answers(unittest.TestCase):
         out, codes = array("i", [-1, -1]), array("I", [9, 9])
         ZONES[3].offsets(array("q", [NOT_A_TIME, 0]), out=out, codes=codes)
         self.assertEqual((list(out), list(codes)), ([-1, 0], [OUT_OF_RANGE, 0]))
+        with self.assertRaises(TzError) as error:
+            ZONES[3].offsets(array("q", [0, 0, NOT_A_TIME]), out=array("i", [0] * 3))
+        self.assertEqual((error.exception.code, error.exception.index), (OUT_OF_RANGE, 2))
+
+    def test_threads(self):
+        """Each with columns of its own, over one zone."""
+        times = random_times(20000)
+        for call in (ZONES[0].offsets, ZONES[0].instants):
+            expected = call(times)
+            with ThreadPoolExecutor(4) as pool:
+                for found in pool.map(lambda _: call(times[:]), range(8)):
+                    self.assertEqual(found, expected)
 
     def test_without_a_place(self):
         for empty in (array("q"), (ctypes.c_int64 * 0)(), memoryview(b"").cast("q")):
@@ -135,10 +150,9 @@ class Buffers(unittest.TestCase):
             memoryview(data).cast("q"),
             native.cast("q"),
             native.cast("@q"),
-            native.cast("n"),
             memoryview(array("q", [1, *times, 1]))[1:4],
             (ctypes.c_int64 * 3)(*times),
-            (ctypes.c_ssize_t * 3)(*times),
+            *([native.cast("n"), (ctypes.c_ssize_t * 3)(*times)] if sys.maxsize == 2**63 - 1 else []),
             *([native.cast("l"), array("l", times)] if array("l").itemsize == 8 else []),
         ):
             with self.subTest(memoryview(column).format):
@@ -149,6 +163,27 @@ class Buffers(unittest.TestCase):
             self.assertIs(ZONES[0].offsets(times, out=out, codes=codes), out)
             self.assertEqual((list(out), list(codes)), (expected, [0, 0, 0]))
         self.assertEqual(times.tobytes(), data)
+
+    def test_lists_and_other_widths(self):
+        expected = array("i", [3600, 3600]), array("q", [-3600, -3590])
+        columns = [[0, 10], (0, 10), range(0, 20, 10), *(array(c, [0, 10]) for c in "bBhHiIlLqQ")]
+        for column in columns:
+            self.assertEqual(ZONES[0].offsets(column), expected[0], column)
+            self.assertEqual(ZONES[0].instants(column), expected[1], column)
+        self.assertEqual(ZONES[0].offsets([]), array("i"))
+        out, codes = array("i", [0, 0]), array("I", [9, 9])
+        self.assertIs(ZONES[0].offsets([0, 10], out=out, codes=codes), out)
+        self.assertEqual((out, list(codes)), (expected[0], [0, 0]))
+        with self.assertRaises(TzError) as refused:
+            ZONES[0].instants([0, FOLD], "reject")
+        self.assertEqual((refused.exception.code, refused.exception.index), (NO_DATE_TIME, 1))
+        with self.assertRaisesRegex(TypeError, "list"):
+            ZONES[0].local_times([0])
+
+    def test_neither_numpy_nor_pandas_is_imported(self):
+        run = "import sys, tz; zone = tz.ZoneInfo('UTC'); zone.offsets([0]); zone.instants([0])"
+        check = "assert not {'numpy', 'pandas'} & set(sys.modules)"
+        subprocess.run([sys.executable, "-c", f"{run}; {check}"], check=True)
 
     def test_local_times(self):
         fields = LocalTime._fields_
@@ -168,16 +203,25 @@ class Buffers(unittest.TestCase):
     def test_wrong_columns(self):
         paris = ZONES[0]
         wide = memoryview(array("q", range(8)))
+        little = sys.byteorder == "little"
+        swapped = ctypes.c_int64.__ctype_be__ if little else ctypes.c_int64.__ctype_le__
         for wrong, error in (
-            ([0, 1], TypeError),
             ("text", TypeError),
             (None, TypeError),
             (0, TypeError),
             (b"12345678", TypeError),
-            (array("i", [0]), TypeError),
-            (array("Q", [0]), TypeError),
+            ([0, 0.5], TypeError),
+            ([0, None], TypeError),
+            (("0",), TypeError),
+            ({0}, TypeError),
+            ([1 << 63], OverflowError),
+            ((0, -(1 << 63) - 1), OverflowError),
+            (array("Q", [1 << 63]), OverflowError),
             (array("d", [0]), TypeError),
-            ((ctypes.c_int64.__ctype_be__ * 2)(), TypeError),
+            (array("f", [0]), TypeError),
+            (memoryview(array("i", [0])), TypeError),
+            ((ctypes.c_int32 * 2)(), TypeError),
+            ((swapped * 2)(), TypeError),
             (ctypes.c_int64(), ValueError),
             (wide[::2], ValueError),
             (wide[::-1], ValueError),
@@ -202,6 +246,12 @@ class Buffers(unittest.TestCase):
             ):
                 with self.subTest((name, wrong)), self.assertRaises(error):
                     paris.offsets(times, **{name: wrong})
+        # The letter for long is right where it has four bytes.
+        for name, kind in (("out", ctypes.c_long), ("codes", ctypes.c_ulong)):
+            if ctypes.sizeof(kind) == 8:
+                for wrong in ((kind * 2)(), array(kind._type_, [0, 0])):
+                    with self.subTest((name, wrong)), self.assertRaises(TypeError):
+                        paris.offsets(times, **{name: wrong})
         with self.assertRaises(TypeError):
             paris.instants(times, out=array("i", [0, 0]))
         self.assertEqual(list(times), [0, 1])

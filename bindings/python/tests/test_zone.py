@@ -1,5 +1,6 @@
 """`ZoneInfo`: names, files and strings, what is refused, folds and gaps, copies, threads."""
 
+import _ctypes
 import contextlib
 import copy
 import io
@@ -8,6 +9,7 @@ import pickle
 import random
 import re
 import shutil
+import struct
 import subprocess
 import sys
 import tempfile
@@ -29,6 +31,28 @@ def file_of(name):
     """The bytes of a zone file of the machine."""
     paths = [os.path.join(directory, name) for directory in zoneinfo.TZPATH]
     return Path(next(filter(os.path.isfile, paths))).read_bytes()
+
+
+def tzif(changes, types, footer="", leap_seconds=(), version="2"):
+    """A zone file: instants with the places of their types, and types as (offset, is_dst, name)."""
+    names = b"".join(name.encode() + b"\0" for *_, name in types)
+    place, places = 0, []
+    for *_, name in types:
+        places.append(place)
+        place += len(name) + 1
+    body = b"".join(struct.pack(">q", at) for at, _ in changes)
+    body += bytes(place for _, place in changes)
+    for (offset, is_dst, _), place in zip(types, places):
+        body += struct.pack(">lBB", offset, is_dst, place)
+    body += names + b"".join(struct.pack(">ql", *pair) for pair in leap_seconds)
+    counts = 0, 0, len(leap_seconds), len(changes), len(types), len(names)
+    head, first = b"TZif" + version.encode() + bytes(15), struct.pack(">6l", 0, 0, 0, 0, 1, 1)
+    body = struct.pack(">6l", *counts) + body + f"\n{footer}\n".encode()
+    return head + first + bytes(7) + head + body
+
+
+def zone_of(*parts, **more):
+    return ZoneInfo.from_file(io.BytesIO(tzif(*parts, **more)))
 
 
 @contextlib.contextmanager
@@ -149,6 +173,32 @@ class Files(unittest.TestCase):
             self.assertEqual((zone.utcoffset(dt), zone.tzname(dt)), (HOUR, "CET"))
         self.assertEqual(zone.utcoffset(datetime(2030, 7, 1)), 2 * HOUR)
 
+    def test_a_clock_that_begins_late(self):
+        """A file of version 4 whose leap seconds begin in 1972: no clock is known before."""
+        types = [(3600, 0, "AAA")]
+        zone = zone_of([(94694400, 0)], types, "AAA-1", [(78796800, 10)], "4")
+        self.assertEqual(time(12, tzinfo=zone).utcoffset(), HOUR)
+        self.assertEqual(zone.tzname(datetime(1980, 1, 1)), "AAA")
+        utc = datetime(1980, 1, 1, tzinfo=timezone.utc)
+        self.assertEqual(utc.astimezone(zone).hour, 1)
+        for call in (zone.utcoffset, zone.tzname, zone.dst):
+            with self.assertRaises(TzError):
+                call(datetime(1970, 1, 1))
+        with self.assertRaises(TzError):
+            datetime(1970, 1, 1, tzinfo=timezone.utc).astimezone(zone)
+        # It begins after all that a datetime can be.
+        zone = zone_of([(1 << 61, 0)], types, "AAA-1", [((1 << 60) - 9, 10)], "4")
+        self.assertIsNone(time(12, tzinfo=zone).utcoffset())
+
+    def test_leap_seconds(self):
+        """A file counts them, and Unix time does not: a change after two is two seconds earlier."""
+        types, leap_seconds = [(0, 0, "AAA"), (3600, 0, "BBB")], [(0, 1), (50000000, 2)]
+        zone = zone_of([(100000002, 1)], types, "BBB-1", leap_seconds)
+        change = datetime(1970, 1, 1) + timedelta(seconds=100000000)
+        for beside, name in ((-1, "AAA"), (0, "BBB")):
+            utc = change + timedelta(seconds=beside)
+            self.assertEqual(utc.replace(tzinfo=timezone.utc).astimezone(zone).tzname(), name)
+
     def test_a_file_is_read_as_bytes(self):
         with self.assertRaises(TypeError):
             ZoneInfo.from_file(io.StringIO("TZif"))
@@ -188,6 +238,24 @@ class Strings(unittest.TestCase):
         for dt in (datetime(2020, 3, 1, 1, 59), datetime(2020, 3, 1, 3), datetime(2020, 12, 1)):
             self.assertEqual(*((zone.utcoffset(dt), zone.tzname(dt)) for zone in zones))
 
+    def test_types(self):
+        """A zone of a TZ string has one type beside its rule: standard time."""
+        zone = ZoneInfo.from_tz_string("AAA-1BBB,J60,J300")
+        types = _library.LocalTimeType.from_address(zone._zone.parts.types)
+        self.assertEqual(zone._zone.parts.types_length, 1)
+        self.assertEqual((types.designation, types.is_dst), (b"AAA", False))
+        self.assertEqual((zone._least, zone._greatest), (3600, 7200))
+
+    def test_days_from_zero(self):
+        """Day 59 is February 29th of a leap year; `zoneinfo` reads it a day early."""
+        data = tzif([(0, 0)], [(-10800, 0, "AAA")], "AAA3BBB,59/2,300/2")
+        zones = (kind.from_file(io.BytesIO(data)) for kind in (ZoneInfo, zoneinfo.ZoneInfo))
+        for zone, early in zip(zones, (0, 1)):
+            for day in (datetime(2023, 3, 1, 12), datetime(2024, 2, 29, 12)):
+                first = day - timedelta(days=early)
+                names = [zone.tzname(first - timedelta(days=1)), zone.tzname(first)]
+                self.assertEqual(names, ["AAA", "BBB"], (zone, day))
+
     def test_pickle(self):
         zone = ZoneInfo.from_tz_string("CET-1CEST,M3.5.0,M10.5.0/3")
         for made in (pickle.loads(pickle.dumps(zone)), copy.copy(zone), copy.deepcopy(zone)):
@@ -219,21 +287,67 @@ class Times(unittest.TestCase):
 
     def test_three_readings(self):
         """Clocks are set back twice by an hour, half an hour apart, and show 00:15 three times."""
-        types = b"".join(
-            offset.to_bytes(4, "big", signed=True) + b"\0" + bytes([4 * index])
-            for index, offset in enumerate((7200, 3600, 0))
-        )
-        times = b"".join((-3600 + 1800 * index).to_bytes(8, "big", signed=True) for index in (0, 1))
-        header = b"TZif2" + bytes(15) + bytes(12)
-        counts = b"".join(count.to_bytes(4, "big") for count in (2, 3, 12))
-        empty = header + b"".join(count.to_bytes(4, "big") for count in (0, 1, 1)) + bytes(7)
-        data = empty + header + counts + times + bytes([1, 2]) + types + b"AAA\0BBB\0CCC\0\nCCC0\n"
-        zone = ZoneInfo.from_file(io.BytesIO(data))
+        types = (7200, 0, "AAA"), (3600, 0, "BBB"), (0, 0, "CCC")
+        zone = zone_of([(-3600, 1), (-1800, 2)], types, "CCC0")
         for hour, fold, name in ((-1.75, 0, "AAA"), (-0.75, 1, "CCC"), (0.25, 1, "CCC")):
             local = zone.fromutc(datetime(1970, 1, 1, tzinfo=zone) + hour * HOUR)
             self.assertEqual(local.replace(tzinfo=None), datetime(1970, 1, 1, 0, 15))
             # A fold has two readings, so the second of three is not told from the last.
             self.assertEqual((local.fold, zone.tzname(local)), (fold, name))
+
+    def test_long_fold(self):
+        """Clocks are set back by four hours, so that a fold lasts as long."""
+        zone = zone_of([(0, 1)], [(14400, 0, "AAA"), (0, 0, "BBB")], "BBB0")
+        for hour, fold in ((-0.5, 0), (0.5, 1), (2, 1), (3.75, 1), (4, 0), (5, 0)):
+            local = zone.fromutc(datetime(1970, 1, 1, tzinfo=zone) + hour * HOUR)
+            self.assertEqual(local.fold, fold, hour)
+
+    def test_many_readings(self):
+        """Random jumps, beside a walk over all spans: most local times mean several things."""
+        source = random.Random(95)
+        for _ in range(40):
+            offsets = [source.randrange(-86000, 86000) for _ in range(12)]
+            times = sorted(source.sample(range(-40000, 40000), len(offsets) - 1))
+            types = [(offset, 0, f"A{place:02}") for place, offset in enumerate(offsets)]
+            zone = zone_of([(at, place + 1) for place, at in enumerate(times)], types)
+            spans = list(zip([-(1 << 40), *times], [*times, 1 << 40], offsets))
+            for local in (source.randrange(-90000, 90000) for _ in range(100)):
+                # The places of the types that show it, or if none does those beside its jumps.
+                shown = [
+                    place for place, (first, end, offset) in enumerate(spans)
+                    if first <= local - offset < end
+                ]
+                jumps = [
+                    place for place, (first, _, offset) in enumerate(spans)
+                    if place and first + offsets[place - 1] <= local < first + offset
+                ]
+                low, high = (shown[0], shown[-1]) if shown else (jumps[0] - 1, jumps[-1])
+                dt = datetime(1970, 1, 1) + timedelta(seconds=local)
+                names = zone.tzname(dt), zone.tzname(dt.replace(fold=1))
+                self.assertEqual(names, (f"A{low:02}", f"A{high:02}"), (offsets, times, local))
+                for place in shown:
+                    utc = dt - timedelta(seconds=offsets[place])
+                    seen = zone.fromutc(utc.replace(tzinfo=zone))
+                    expected = dt, int(place > shown[0])
+                    self.assertEqual((seen.replace(tzinfo=None), seen.fold), expected)
+
+    def test_two_readings_are_fetched(self):
+        """However many a local time means: here 60, of a clock that goes back 59 times."""
+        types = [(offset, 0, f"A{place:02}") for place, offset in enumerate(range(59, -1, -1))]
+        zone = zone_of([(place, place) for place in range(1, 60)], types)
+        lengths, call = [], _library.find_n
+
+        def find_n(*arguments):
+            lengths.append(arguments[4])
+            return call(*arguments)
+
+        dt = datetime(1970, 1, 1, 0, 0, 59)
+        with mock.patch.object(_library, "find_n", find_n):
+            self.assertEqual(zone.tzname(dt), "A00")
+            self.assertEqual(zone.tzname(dt.replace(fold=1)), "A59")
+            self.assertEqual(zone.fromutc(datetime(1970, 1, 1, 0, 0, 30, tzinfo=zone)).fold, 1)
+        self.assertEqual(set(lengths), {2})
+        self.assertGreater(len(lengths), 2)
 
     def test_time_without_a_date(self):
         for zone, offset in (
@@ -279,6 +393,25 @@ class Times(unittest.TestCase):
             with self.subTest((name, dt)):
                 self.assertEqual(ZoneInfo(name).dst(dt), saving)
         self.assertEqual(ZoneInfo.from_tz_string("EST5EDT,0/0,J365/25").dst(datetime.max), HOUR)
+        # Always daylight saving time, half an hour ahead of the rule's own standard time.
+        zone = ZoneInfo.from_tz_string("AAA-1BBB-1:30,0/0,J365/24:30")
+        self.assertEqual(zone.dst(datetime(2020, 1, 1)), HOUR / 2)
+
+    def test_saving_is_beside_the_nearest_standard_time(self):
+        """Amounts for daylight saving time from 1970 to 2001, between two standard times."""
+        start, end = 0, 1000000000
+        for before, saving, after, footer, amount in (
+            # The first after it is an hour behind; the one before it is too far behind.
+            (0, 10800, 7200, "CCC-1:30", 1),
+            # The rule's daylight saving time has its offset, and another name.
+            (5400, 7200, 5400, "CCC-1BBB,J60,J300", 0.5),
+            (5400, 7200, 5400, "CCC-1SSS,J60,J300", 1),
+        ):
+            last = 5400 if footer == "CCC-1:30" else 3600
+            types = [(before, 0, "AAA"), (saving, 1, "SSS"), (after, 0, "BBB"), (last, 0, "CCC")]
+            zone = zone_of([(start, 1), (end, 2), (end + 10000000, 3)], types, footer)
+            with self.subTest(footer):
+                self.assertEqual(zone.dst(datetime(1990, 1, 1)), amount * HOUR)
 
     def test_kept_spans_change_no_answer(self):
         """A zone that has answered often, beside one that has forgotten everything each time."""
@@ -295,7 +428,7 @@ class Times(unittest.TestCase):
             answers = []
             for zone in (kept, forgetful):
                 local = zone.fromutc(dt.replace(tzinfo=zone, fold=0)).replace(tzinfo=None)
-                forgetful._spans.clear()
+                forgetful._forget()
                 calls = zone.utcoffset, zone.tzname, zone.dst
                 answers.append((local, local.fold, *(call(dt) for call in calls)))
                 self.assertLessEqual(len(zone._spans), 1024)
@@ -322,7 +455,7 @@ class Module(unittest.TestCase):
     def test_layout_of_another_version(self):
         with mock.patch.object(_library, "ABI", 0), self.assertRaises(ImportError):
             _library.check_layout()
-        layout = {**_library.LAYOUT, 14: _library.Zone, 10: _library.Sizes}
+        layout = (*_library.LAYOUT[:9], _library.Sizes, *_library.LAYOUT[10:])
         with mock.patch.object(_library, "LAYOUT", layout), self.assertRaises(ImportError):
             _library.check_layout()
 
@@ -335,7 +468,7 @@ class Module(unittest.TestCase):
         self.assertEqual(sorted(strings), list(_library.STRING_CODES))
         for name, value in {
             "ABI": _library.ABI,
-            "LAYOUT_LENGTH": _library.LAYOUT_LENGTH,
+            "LAYOUT_LENGTH": 1 + len(_library.LAYOUT),
             "OK": _library.OK,
             "NO_AVAILABLE_LOCAL_TIME_TYPE": _library.NO_TYPE,
             "NO_CHANGE": _library.NO_CHANGE,
@@ -357,6 +490,17 @@ class Module(unittest.TestCase):
         self.assertEqual(run.returncode, 1)
         self.assertIn("ImportError", run.stderr)
         self.assertIn("pip install", run.stderr)
+
+    def test_another_library(self):
+        """One that lacks the functions, such as that of another module."""
+        with tempfile.TemporaryDirectory() as room:
+            shutil.copytree(Path(tz.__file__).parent, Path(room, "tz"))
+            Path(room, "tz", _library.FILE).unlink()
+            shutil.copy(_ctypes.__file__, Path(room, "tz", _library.FILE))
+            command = [sys.executable, "-c", "import tz"]
+            run = subprocess.run(command, cwd=room, capture_output=True, text=True)
+        self.assertEqual(run.returncode, 1)
+        self.assertRegex(run.stderr.splitlines()[-1], "^ImportError: .*of another version$")
 
     def test_errors(self):
         with self.assertRaises(MemoryError):

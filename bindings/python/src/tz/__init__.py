@@ -1,12 +1,14 @@
 """Unix time to the local date and time of a time zone, and back, by a proved library.
 
-`ZoneInfo` is a drop-in for `zoneinfo.ZoneInfo`. It also converts whole columns over any buffer:
-instants to offsets, and local times to instants.
+`ZoneInfo` is a `zoneinfo.ZoneInfo`. It also converts whole columns: instants to offsets and local
+times, and local times to instants.
 
 >>> from array import array
 >>> from tz import ZoneInfo
 >>> ZoneInfo("Europe/Paris").offsets(array("q", [946684800, 951782400, 962409600]))
 array('i', [3600, 3600, 7200])
+
+`implementation` says how single calls are made: by a module in ``C``, or by ``ctypes``.
 
 `TZPATH`, `reset_tzpath`, `ZoneInfoNotFoundError` and `InvalidTZPathWarning` are those of
 `zoneinfo`: both look in the same directories. A zone without a file is that of the library's own
@@ -18,7 +20,7 @@ from typing import Any, List, Set
 from zoneinfo import InvalidTZPathWarning, ZoneInfoNotFoundError, reset_tzpath
 
 from ._library import LocalTime, TzError, built_in_names, built_in_version, error_text
-from ._zone import ZoneInfo
+from ._zone import ZoneInfo, implementation
 
 # The release, as TZ_VERSION of tz.h.
 __version__ = "2.0.0"
@@ -28,6 +30,7 @@ __all__ = [
     "LocalTime",
     "TzError",
     "error_text",
+    "implementation",
     "TZPATH",
     "available_timezones",
     "built_in_names",

@@ -11,8 +11,13 @@ from . import _library
 from ._library import OK, DateTime, LocalTime, LocalTimeType, Parts, TzError, Zone, check
 
 _ORDER = "[@=<]?" if sys.byteorder == "little" else "[@=>!]?"
-# The fields of a LocalTime as numpy and ctypes describe them.
-_FIELDS = rf"T{{{_ORDER}[il]:\w+:({_ORDER}B:\w+:){{5}}(3x|xxx)?{_ORDER}[IL]:\w+:}}"
+# The fields of a LocalTime as numpy and ctypes describe them. Some ctypes leave out the padding
+# before the last one; after `=` numpy has none there.
+_BYTES_OF_A_TIME = "month", "month_day", "hour", "minute", "second"
+_BYTE_FIELDS = "".join(rf"{_ORDER}B:{name}:" for name in _BYTES_OF_A_TIME)
+_FIELDS = (
+    rf"T{{{_ORDER}[il]:year:{_BYTE_FIELDS}((3x|xxx){_ORDER}|(?!=){_ORDER})[IL]:nanoseconds:}}"
+)
 _INT64, _INT32 = "64-bit signed integers", "32-bit signed integers"
 _UINT32, _BYTES = "32-bit unsigned integers", "bytes"
 # What columns hold: its formats, its size and its alignment.
@@ -55,6 +60,12 @@ def _is_of(view: memoryview, kind: str) -> bool:
     # In Python 3.9 the items of an empty array of ctypes have the size 0.
     has_size = view.itemsize == size or view.nbytes == 0
     return has_size and pattern.fullmatch(view.format) is not None
+
+
+def codes_of(codes: Any, length: int) -> Any:
+    """Codes to write as an array of numpy."""
+    _Column("codes", codes, _UINT32, length=length)
+    return sys.modules["numpy"].frombuffer(codes if length else b"", "uint32")
 
 
 def _new(typecode: str, length: int) -> "array[int]":
@@ -117,8 +128,8 @@ def instants(zone: Zone, local_times: Any, choice: int, out: Any, codes: Any) ->
 
 
 _utc_type = LocalTimeType()
-_utc = Zone(Parts(types=addressof(_utc_type), types_length=1))
-check(_library.zone_check(_utc.parts, _utc.offsets))
+utc = Zone(Parts(types=addressof(_utc_type), types_length=1))
+check(_library.zone_check(utc.parts, utc.offsets))
 
 
 def _local_times_of(seconds: _Column) -> Tuple[_Column, "array[int]"]:
@@ -138,7 +149,7 @@ def _local_times_of(seconds: _Column) -> Tuple[_Column, "array[int]"]:
         count = min(_AT_A_TIME, seconds.length - start)
         check(
             _library.column_date_times(
-                seconds.address + 8 * start, count, nanoseconds.address, count, byref(_utc),
+                seconds.address + 8 * start, count, nanoseconds.address, count, byref(utc),
                 slots.address, count, answers.address + 4 * start, count,
             )
         )  # fmt: skip

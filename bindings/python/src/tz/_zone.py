@@ -1,29 +1,37 @@
 """Time zones as `datetime` takes them."""
 
+import io
 import os
 import pickle
 import re
+import struct
 import threading
 import weakref
 import zoneinfo
 from collections import OrderedDict
-from ctypes import addressof, byref, c_size_t
-from datetime import datetime, timedelta, tzinfo
+from ctypes import addressof, byref, c_size_t, c_void_p, cast
+from datetime import datetime, timedelta
 from importlib import resources
 from typing import TYPE_CHECKING, Any, BinaryIO, ClassVar, Dict, Iterable, List, Literal, Optional
 from typing import Tuple
 from zoneinfo import ZoneInfoNotFoundError
 
-from . import _columns, _library
+from . import _arrays, _library
 from ._library import check
 
+try:
+    from . import _single
+except ImportError:  # It is compiled where a compiler for C is.
+    _single = None
+
 if TYPE_CHECKING:
-    from typing_extensions import Buffer, Self
+    from typing_extensions import Self
 
 Choice = Literal["compatible", "earlier", "later", "reject"]
 
 _EPOCH_DAY = datetime(1970, 1, 1).toordinal()
 _LEAST_INSTANT = -(1 << 63)
+_LAST_INSTANT = (datetime.max - datetime(1970, 1, 1)) // timedelta(seconds=1)
 _PART = re.compile(r"[0-9A-Za-z._+-]+", re.ASCII)
 # How many zones are kept although nobody holds them, as `zoneinfo` keeps them.
 _MOST_RECENT = 8
@@ -33,6 +41,8 @@ _SPAN_BITS, _MOST_SPANS = 22, 1024
 _MOST_SAVING, _USUAL_SAVING = 7200, 3600
 # How many changes away a standard time is looked for: wartime London had eleven without one.
 _MOST_CHANGES = 16
+# The least TZif file, of which `zoneinfo.ZoneInfo` makes an object. Nothing here reads it again.
+_LEAST_FILE = b"TZif" + bytes(16) + struct.pack(">6l", 0, 0, 0, 0, 1, 1) + bytes(7)
 
 
 class _Span:
@@ -48,7 +58,7 @@ class _Span:
         self.saving: Optional[timedelta] = None
 
 
-class ZoneInfo(tzinfo):
+class ZoneInfo(zoneinfo.ZoneInfo):
     """A time zone of the tz database, by its name, as `zoneinfo.ZoneInfo` is one.
 
     >>> from datetime import datetime
@@ -71,15 +81,15 @@ class ZoneInfo(tzinfo):
 
     __slots__ = (
         "_key", "_from_cache", "_is_built_in", "_text", "_source", "_zone", "_held", "_spans",
-        "_always", "_least", "_greatest", "__weakref__",
+        "_always", "_least", "_greatest", "_kept",
     )  # fmt: skip
 
     _lock: ClassVar[Any] = threading.RLock()
     _alive: ClassVar[Any] = weakref.WeakValueDictionary()
     _recent: ClassVar[Any] = OrderedDict()
 
-    def __init_subclass__(cls) -> None:
-        super().__init_subclass__()
+    def __init_subclass__(cls, **options: Any) -> None:
+        super().__init_subclass__(**options)
         cls._alive, cls._recent = weakref.WeakValueDictionary(), OrderedDict()
 
     def __new__(cls, key: str) -> "Self":
@@ -205,14 +215,13 @@ class ZoneInfo(tzinfo):
         source: Optional[str],
     ) -> "Self":
         """Makes an object of a zone, whose parts lie in what is held or in the library."""
-        made = super().__new__(cls)
+        made = super().from_file(io.BytesIO(_LEAST_FILE), key)
         made._key, made._from_cache, made._text, made._source = key, from_cache, text, source
-        made._zone, made._held, made._spans, made._is_built_in = zone, held, {}, False
+        made._zone, made._held, made._is_built_in = zone, held, False
+        made._forget()
         check(_library.zone_check(zone.parts, zone.offsets), source if key is None else key)
         made._least, made._greatest = zone.offsets.least, zone.offsets.greatest
-        # A time without a date has the type that holds at all instants, if there is one.
-        code = _library.following(zone, _LEAST_INSTANT, _library.Change())
-        made._always = made._span_at(0) if code == _library.NO_CHANGE else None
+        made._always = made._only_span()
         return made
 
     @property
@@ -259,46 +268,56 @@ class ZoneInfo(tzinfo):
         local = dt + span.offset
         # Clocks may show the same twice only as far apart as their offsets differ.
         if instant - span.first < self._greatest - self._least:
-            shown = (entry.before for entry in self._found(local) if not entry.is_skipped)
-            if any(earlier.unix_time < instant for earlier in shown):
+            shown = [entry for entry in self._found(local, last=False) if not entry.is_skipped]
+            if shown[0].before.unix_time < instant:
                 return local.replace(fold=1)
         return local
 
-    def offsets(
-        self,
-        instants: "Buffer",
-        *,
-        out: Optional["Buffer"] = None,
-        codes: Optional["Buffer"] = None,
-    ) -> Any:
-        """The offsets from UTC, in seconds, of a column of instants.
+    def offsets(self, instants: Any, *, out: Any = None, codes: Any = None) -> Any:
+        """The offsets from UTC of a column of instants.
 
-        ``instants`` has Unix seconds, as 64-bit signed integers: an ``array("q")``, a `memoryview`,
-        a numpy array of int64 or any other contiguous buffer of one dimension.
+        =====================================  =================================================
+        instants                               answers
+        =====================================  =================================================
+        ``datetime64`` of numpy in s, ms, us,  ``timedelta64[s]``: added to the instants they are
+        ns                                     the local times
+        integers, which are Unix seconds       an ``array("i")`` of seconds
+        a Series or an Index of these          a Series with the same index and name, or an Index
+        =====================================  =================================================
 
-        The offsets are written to ``out``, 32-bit signed integers, which is returned: to a new
-        ``array("i")`` if it is left out.
+        Integers are those of a list, a tuple, a range, an `array`, numpy or pandas, of any width,
+        or 64-bit signed ones in any other contiguous buffer of one dimension. Times of pandas are
+        in UTC, unless they have a time zone. Where there is no time (``NaT``), the answer is none.
 
-        ``codes``, 32-bit unsigned integers, gets 0 at each place, or the code of its error, and
-        ``out`` stays as it is there. Without ``codes`` the first error is raised, a `TzError` with
-        the place as ``index``.
+        The answers are written to ``out`` if it is passed, which is returned: 32-bit signed
+        integers, or for ``datetime64`` an array of the type that is answered.
 
-        No other thread may write to these buffers during the call.
+        ``codes``, 32-bit unsigned integers, gets 0 at each place, or the code of its error; there
+        ``out`` stays as it is, or has ``NaT``. Without ``codes`` the first error is raised, a
+        `TzError` with the place as ``index``.
+
+        No other thread may write to these columns during the call.
         """
-        return _columns.offsets(self._zone, instants, out, codes)
+        return _arrays.offsets(self._zone, instants, out, codes)
+
+    def local_times(self, instants: Any, *, out: Any = None, codes: Any = None) -> Any:
+        """What the clock shows at a column of instants.
+
+        ``instants`` has the type ``datetime64``, as for `offsets`, and so have the local times, in
+        the same unit. A time without an answer in this unit has the code 1. For ``out``, ``codes``,
+        errors and threads see `offsets`.
+        """
+        return _arrays.local_times(self._zone, instants, out, codes)
 
     def instants(
-        self,
-        local_times: "Buffer",
-        choice: Choice = "compatible",
-        *,
-        out: Optional["Buffer"] = None,
-        codes: Optional["Buffer"] = None,
+        self, local_times: Any, choice: Choice = "compatible", *, out: Any = None, codes: Any = None
     ) -> Any:
-        """The instants, in Unix seconds, that a column of local times means by a choice.
+        """The instants that a column of local times means by a choice.
 
-        ``local_times`` has seconds since 1970-01-01 00:00:00 of the zone's clock, as 64-bit signed
-        integers (numpy's ``datetime64[s]`` has such), or `LocalTime`.
+        ``local_times`` has the type ``datetime64``, and the instants have it in the same unit, in
+        UTC. Or it has integers: seconds since 1970-01-01 00:00:00 of the zone's clock; or
+        `LocalTime`. Then the instants are an ``array("q")`` of Unix seconds. For Series, ``out``,
+        ``codes``, errors and threads see `offsets`.
 
         ==============  =========  ====================================
         choice          in a fold  in a gap
@@ -309,15 +328,11 @@ class ZoneInfo(tzinfo):
         ``reject``      none       none
         ==============  =========  ====================================
 
-        ``compatible`` is what `datetime.timestamp` does with ``fold=0``.
-
-        The instants are written to ``out``, 64-bit signed integers, which is returned: to a new
-        ``array("q")`` if it is left out. For ``codes``, errors and threads see `offsets`. The code
-        of none is 5.
+        ``compatible`` is what `datetime.timestamp` does with ``fold=0``. The code of none is 5.
         """
         if choice not in _library.CHOICES:
             raise ValueError(f"a choice is one of {', '.join(_library.CHOICES)}, not {choice!r}")
-        return _columns.instants(self._zone, local_times, _library.CHOICES[choice], out, codes)
+        return _arrays.instants(self._zone, local_times, _library.CHOICES[choice], out, codes)
 
     def __str__(self) -> str:
         return repr(self) if self._key is None else self._key
@@ -329,6 +344,10 @@ class ZoneInfo(tzinfo):
             return f"{type(self).__name__}(key={self._key!r})"
         maker = "from_file" if self._text is None else "from_tz_string"
         return f"{type(self).__name__}.{maker}({self._source})"
+
+    def __reduce_ex__(self, protocol: Any) -> Tuple[Any, ...]:
+        # The class that `zoneinfo` has without its module in C puts a `__reduce__` on the object.
+        return type(self).__reduce__(self)
 
     def __reduce__(self) -> Tuple[Any, ...]:
         if self._is_built_in:
@@ -343,6 +362,22 @@ class ZoneInfo(tzinfo):
     def _unpickle(cls, key: str, from_cache: bool, /) -> "Self":
         return cls(key) if from_cache else cls.no_cache(key)
 
+    def _forget(self) -> None:
+        """Begins without a span that is kept."""
+        self._spans: Dict[int, _Span] = {}
+        if _single is not None:
+            owner = self._zone, self._held
+            self._kept = _single.Kept(addressof(self._zone), owner, _in_python)
+
+    def _only_span(self) -> Optional[_Span]:
+        """The span of a clock that never changes, which a time without a date has."""
+        if _library.following(self._zone, _LEAST_INSTANT, _library.Change()) != _library.NO_CHANGE:
+            return None
+        # A clock may begin late: after 1970, or after all that a datetime can be.
+        segment = _library.Segment()
+        check(_library.segment_at(self._zone, _LAST_INSTANT, segment))
+        return _Span(segment) if segment.has_type else None
+
     def _span_at(self, instant: int) -> _Span:
         """The span around an instant."""
         span = self._spans.get(instant >> _SPAN_BITS)
@@ -351,7 +386,6 @@ class ZoneInfo(tzinfo):
             check(_library.segment_at(self._zone, instant, segment))
             if not segment.has_type:
                 check(_library.type_at(self._zone, instant, segment.local_time_type), str(self))
-                segment.first = segment.last = instant
             span = _Span(segment)
             self._keep(instant, span)
         return span
@@ -378,7 +412,7 @@ class ZoneInfo(tzinfo):
 
     def _instant_of(self, dt: datetime) -> int:
         """An instant at which clocks have the offset of a local time, by its fold."""
-        found = self._found(dt)
+        found = self._found(dt, last=bool(dt.fold))
         shown = [entry.before for entry in found if not entry.is_skipped]
         if shown:
             return shown[-1 if dt.fold else 0].unix_time
@@ -386,16 +420,21 @@ class ZoneInfo(tzinfo):
             raise _library.TzError(_library.NO_TYPE, f"{self}: {dt.replace(tzinfo=None)}")
         return found[-1].after.unix_time if dt.fold else found[0].before.unix_time - 1
 
-    def _found(self, dt: datetime) -> List[_library.Found]:
-        """All that a local time means: the instants at which clocks show it, the jumps over it."""
+    def _found(self, dt: datetime, *, last: bool) -> List[_library.Found]:
+        """The first two of all that a local time means, or the last two.
+
+        That is the instants at which clocks show it, and the jumps over it: all of them, if clocks
+        jump over it at these two and there are more.
+        """
         fields = _library.LocalTime(dt.year, dt.month, dt.day, dt.hour, dt.minute, dt.second, 0)
-        length, count = 2, c_size_t()
-        while True:
-            slots = (_library.Found * length)()
-            check(_library.find_n(fields, self._zone, 0, slots, length, byref(count)))
-            if count.value <= length:
-                return slots[: count.value]
-            length = count.value
+        slots, count = (_library.Found * 2)(), c_size_t()
+        check(_library.find_n(fields, self._zone, 0, slots, len(slots), byref(count)))
+        if count.value > 2 and last:
+            check(_library.find_n(fields, self._zone, count.value - 2, slots, 2, byref(count)))
+        if count.value > 2 and all(entry.is_skipped for entry in slots):
+            slots = (_library.Found * count.value)()
+            check(_library.find_n(fields, self._zone, 0, slots, len(slots), byref(count)))
+        return slots[: count.value]
 
     def _saving(self, span: _Span) -> int:
         """How far the type of a span is ahead of standard time."""
@@ -466,3 +505,14 @@ def _bytes_of_zone(key: str) -> Optional[bytes]:
         return resources.files(package).joinpath(parts[-1]).read_bytes()
     except (ImportError, OSError):
         return None
+
+
+# How single calls are made: by the module in C, or by the methods above over ctypes.
+implementation = "ctypes"
+if _single is not None:
+    if _single.ABI != _library.ABI:
+        raise ImportError(f"{_single.__file__} is of another version: {_single.ABI}")
+    _calls = [cast(call, c_void_p).value for call in (_library.segment_at, _library.find_n)]
+    # These answer what the module in C does not.
+    _in_python = _single.replace_methods(ZoneInfo, *_calls)
+    implementation = "C"
