@@ -87,6 +87,7 @@ BUILDS = {
     'tz': 'the proved build, by {kit} for x86-64-v2',
     'through-C': f'the proved build as the library of `bindings/c`, {DRIVEN}',
     'through-Rust': 'the generated crate of `bindings/rust`, by {rustc} with `lto`',
+    'Rust-default': 'the same by cargo\'s default release profile, as most programs are built',
     'tz-rs': 'by {rustc} with `lto`',
     **dict.fromkeys(('glibc', 'Abseil', 'cctz', 'date'), f'Debian\'s library, {DRIVEN}'),
     'chrono-tz': 'by {rustc} with `lto` and one codegen unit',

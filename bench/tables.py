@@ -21,8 +21,8 @@ TOP = pathlib.Path(__file__).resolve().parent.parent
 PAGE = TOP / 'docs' / 'BENCHMARKS.md'
 README = TOP / 'README.md'
 COLUMNS = 100
-THROUGH = ('through-C', 'through-Rust')
-OWN = ('tz', 'through-Rust')
+THROUGH = ('through-C', 'through-Rust', 'Rust-default')
+OWN = ('tz', 'through-Rust', 'Rust-default')
 PEERS = ('tz-rs', 'glibc', 'Abseil', 'cctz', 'date', 'chrono-tz', 'Go', 'jiff')
 WIDTH, LEFT, BAR, HEAD, LONGEST = 900, 330, 11, 46, 4000
 COMPILERS = ('kit', 'rustc', 'g++')
@@ -89,7 +89,7 @@ def of_instructions(section, kept, through, peers, reasons):
         cells = [f'{row[peer]}{STAR * (peer in differing)}' if peer in row else '–' for peer in (*through, *peers)]
         lines.append([name, row.get('tz', '–'), *cells, *ratios])
     names = [name.replace('-', ' ') for name in through]
-    heads = [f'{program.removeprefix("through-")} / best' for program in compared]
+    heads = [f'{program.removeprefix("through-").replace("-", " ")} / best' for program in compared]
     return table(['row', 'tz', *names, *peers, *heads], lines)
 
 
@@ -130,7 +130,8 @@ def of_times(kept, reasons):
                 cells.append(f'{multiple(row[peer] / least)}{star}' if peer in row else '–')
             letters = reasons.of(f'time of {name}', {**row, 'tz': least})
             lines.append([name, *cells, f'{least / best_of(row):.2f}{letters}'])
-    return table(['row', 'tz, ns', 'through Rust, ns', *PEERS, 'tz / best'], lines)
+    names = [f'{program.replace("-", " ")}, ns' for program in OWN]
+    return table(['row', *names, *PEERS, 'tz / best'], lines)
 
 
 def days_of(names, kept):
@@ -167,12 +168,12 @@ def of_zones(versions):
     """The versions of the zones' files, by library where they differ."""
     named = {}
     for name, version in versions.items():
-        if not name.startswith('through-'):
+        if name not in THROUGH:
             named.setdefault(version, []).append(name)
     if len(named) == 1:
         return f'Zones are those of tzdata {next(iter(named))}.'
     most = max(named, key=lambda version: len(named[version]))
-    few = [f'tzdata {version} for {" and ".join(names)}' for version, names in named.items() if version != most]
+    few = [f'tzdata {version} for {", ".join(names[:-1])}{" and " * (len(names) > 1)}{names[-1]}' for version, names in named.items() if version != most]
     return f'Zones come from {", ".join(few)}, and from tzdata {most} for the others; chrono-tz has its own.'
 
 

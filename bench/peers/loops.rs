@@ -32,26 +32,25 @@ pub fn refuse(why: &str) -> ! {
     exit(3)
 }
 
-pub trait Zone: Sized {
+/// A library that answers query lines.
+pub trait Lines {
+    /// What clocks show at an instant with its name, handed on; or none, where the zone has no type then.
+    fn named(&self, instant: i64, nanoseconds: u32, take: impl FnOnce(Option<(Shown, &str)>));
+    /// The instants of a local time and the jumps over it, handed on with their number.
+    fn found(&self, local: Local, nanoseconds: u32, take: impl FnMut(usize, Option<Entry<'_>>));
+}
+
+/// Calls of a library that has no loops of its own.
+pub trait Calls: Lines + Sized {
     type Held;
     type Moment: Copy;
-    /// What `first_n` fills: it is made once, before the calls.
-    type Slots: Default;
     fn new(option: &str, argument: &str) -> Self;
     /// The offset of the clock at an instant.
     fn offset(&self, instant: i64) -> i32;
     /// What clocks show at an instant.
     fn shown(&self, instant: i64, nanoseconds: u32) -> Shown;
-    /// The same with its name, handed on; or none, where the zone has no type then.
-    fn named(&self, instant: i64, nanoseconds: u32, take: impl FnOnce(Option<(Shown, &str)>));
-    /// The instants of a local time and the jumps over it, handed on with their number.
-    fn found(&self, local: Local, nanoseconds: u32, take: impl FnMut(usize, Option<Entry<'_>>));
-    /// The Unix time of the first of them.
+    /// The Unix time of the first instant of a local time or jump over it.
     fn first(&self, local: Local) -> i64;
-    /// The same without memory, where the crate has such a call.
-    fn first_n(&self, _: &mut Self::Slots, local: Local) -> i64 {
-        self.first(local)
-    }
     fn held(&self, instant: i64) -> Self::Held;
     fn print(&self, held: &Self::Held) -> String;
     fn utc(instant: i64) -> Local;
@@ -59,40 +58,12 @@ pub trait Zone: Sized {
     fn moment(instant: i64) -> Self::Moment;
     /// The Unix time that many seconds and 7 nanoseconds later.
     fn add(moment: Self::Moment, seconds: u64) -> i64;
-    /// The Unix time of the next change, where the crate has such a call.
-    fn following(&self, _: i64) -> i64 {
-        refuse("no call for the next change")
-    }
-    /// The offsets at instants, where the crate answers columns.
-    fn column_offsets(&self, _: &[i64]) -> Vec<i32> {
-        refuse("no columns")
-    }
-    /// What clocks show at instants, where the crate answers columns: the sum of each one's fields and offset.
-    fn column_date_times(&self, _: &[i64]) -> Vec<u64> {
-        refuse("no columns")
-    }
-    /// The Unix times of the one date times that local times mean, where the crate answers columns.
-    fn column_instants(&self, _: &[Local]) -> Vec<u64> {
-        refuse("no columns")
-    }
-    /// A call of tz that others lack, by its name, for a word: the same sum as tz's own program makes.
-    fn own(&self, _: &str) -> impl FnMut(&Own<Self::Moment>) -> u64 {
-        |_: &Own<Self::Moment>| refuse("no such call")
-    }
     /// Makes a zone of a file's bytes.
     fn read(bytes: &[u8]) -> bool;
     /// Makes a zone of a setting: a file's name or a TZ string.
     fn set(string: &str) -> bool;
-    /// Makes a zone of a TZ string with a reader of files that fails for each path: the sum of the last bytes of the paths, and 1.
-    fn set_by_reader(_: &str) -> u64 {
-        refuse("no reader of files")
-    }
     /// Makes a zone of a TZ string alone.
     fn parse(string: &str) -> bool;
-    /// Makes the zone's rule anew, of its parts.
-    fn made_rule(&self) -> bool {
-        refuse("no rule of parts")
-    }
 }
 
 fn number(at: &mut &[u8]) -> i64 {
@@ -154,7 +125,7 @@ fn print(out: &mut Vec<u8>, shown: &Shown, nanoseconds: u32, name: &str) {
     out.extend_from_slice(name.as_bytes());
 }
 
-fn answer_lines<Z: Zone>(zone: &Z) {
+pub fn answer_lines<Z: Lines>(zone: &Z) {
     let mut input = Vec::new();
     io::stdin().lock().read_to_end(&mut input).unwrap();
     let mut out = Vec::with_capacity(4 * input.len());
@@ -203,23 +174,8 @@ fn local_of(word: i64) -> Local {
     Local { year: (word / 10_000_000_000) as i32, month: part(100_000_000), day: part(1_000_000), hour: part(10_000), minute: part(100), second: part(1) }
 }
 
-/// A word as each kind of argument.
-pub struct Own<M> {
-    pub instant: i64,
-    pub local: Local,
-    pub moment: Option<M>,
-    pub printed: String,
-}
-
-/// Makes the call for each of these words, this many times in all, and prints the sum of what they returned; or, for no number, each answer.
-fn run<W>(name: &str, times: &str, words: &[W], mut call: impl FnMut(&W) -> u64) {
-    let mut sum = |words: &[W]| {
-        let mut total = 0u64;
-        for word in words {
-            total = total.wrapping_add(call(word));
-        }
-        total
-    };
+/// Makes the call of a loop for each of these words, this many times in all, and prints the sum of what they returned; or, for no number, each answer.
+pub fn run_loop<W>(name: &str, times: &str, words: &[W], mut sum: impl FnMut(&[W]) -> u64) {
     if times == "each" {
         for word in words {
             println!("{}", sum(std::slice::from_ref(word)));
@@ -235,25 +191,28 @@ fn run<W>(name: &str, times: &str, words: &[W], mut call: impl FnMut(&W) -> u64)
     println!("{name} {}", total.wrapping_add(sum(&words[..left])));
 }
 
-/// Answers a column of the first words, this many, in one call, and prints the sum; or, for no number, each answer.
-fn run_column<W, A>(name: &str, times: &str, words: &[W], value: impl Fn(&A) -> u64, call: impl FnOnce(&[W]) -> Vec<A>) {
-    let count = if times == "each" { words.len() } else { times.parse().unwrap() };
-    let Some(words) = words.get(..count) else { refuse("no column of that length") };
-    let answers = call(words);
-    if times == "each" {
-        for answer in &answers {
-            println!("{}", value(answer));
+/// The same of a call for each word.
+fn run<W>(name: &str, times: &str, words: &[W], mut call: impl FnMut(&W) -> u64) {
+    run_loop(name, times, words, |words| {
+        let mut total = 0u64;
+        for word in words {
+            total = total.wrapping_add(call(word));
         }
-        return;
-    }
-    println!("{name} {}", answers.iter().fold(0, |sum: u64, answer| sum.wrapping_add(value(answer))));
+        total
+    });
 }
 
-fn make_calls<Z: Zone>(zone: &Z, argument: &str, call: &str, times: &str) {
+/// The words on standard input, as instants and as local times.
+pub fn read_words() -> (Vec<i64>, Vec<Local>) {
     let mut input = String::new();
     io::stdin().lock().read_to_string(&mut input).unwrap();
     let words: Vec<i64> = input.lines().map(|line| line.parse().unwrap()).collect();
-    let locals: Vec<Local> = words.iter().map(|word| local_of(*word)).collect();
+    let locals = words.iter().map(|word| local_of(*word)).collect();
+    (words, locals)
+}
+
+fn make_calls<Z: Calls>(zone: &Z, argument: &str, call: &str, times: &str) {
+    let (words, locals) = read_words();
     match call {
         "instant" => run(call, times, &words, |word| *word as u64),
         "local" => run(call, times, &locals, sum_of),
@@ -262,15 +221,7 @@ fn make_calls<Z: Zone>(zone: &Z, argument: &str, call: &str, times: &str) {
             let shown = zone.shown(*word, 7);
             sum_of(&shown.local).wrapping_add(shown.offset as u64)
         }),
-        "find" => run(call, times, &locals, |local| zone.first(*local) as u64),
-        "find_n" => {
-            let mut slots = Z::Slots::default();
-            run(call, times, &locals, |local| zone.first_n(&mut slots, *local) as u64);
-        }
-        "following" => run(call, times, &words, |word| zone.following(*word) as u64),
-        "column_offsets" => run_column(call, times, &words, |offset| *offset as u64, |words| zone.column_offsets(words)),
-        "column_date_times" => run_column(call, times, &words, |sum| *sum, |words| zone.column_date_times(words)),
-        "column_instants" => run_column(call, times, &locals, |instant| *instant, |locals| zone.column_instants(locals)),
+        "find" | "find_n" => run(call, times, &locals, |local| zone.first(*local) as u64),
         "display" => {
             let held: Vec<Z::Held> = words.iter().map(|word| zone.held(*word)).collect();
             run(call, times, &held, |held| zone.print(held).len() as u64);
@@ -286,26 +237,12 @@ fn make_calls<Z: Zone>(zone: &Z, argument: &str, call: &str, times: &str) {
             run(call, times, &words, |_| u64::from(Z::read(&bytes)));
         }
         "from_posix_tz" => run(call, times, &words, |_| u64::from(Z::set(argument))),
-        "failing_reader" => run(call, times, &words, |_| Z::set_by_reader(argument)),
         "parse_string" => run(call, times, &words, |_| u64::from(Z::parse(argument))),
-        "rule" => run(call, times, &words, |_| u64::from(zone.made_rule())),
-        "find_one" | "meaning" => {
-            let words: Vec<_> = locals.iter().map(|local| Own { instant: 0, local: *local, moment: None, printed: String::new() }).collect();
-            run(call, times, &words, zone.own(call));
-        }
-        "from_local" | "preceding" | "segment_at" | "kept_segment" | "walk" | "walk_back" | "parse" | "from_rule" => {
-            let word_of = |word: &i64| {
-                let printed = zone.print(&zone.held(*word));
-                Own { instant: *word, local: local_of(0), moment: Some(Z::moment(*word)), printed }
-            };
-            let words: Vec<_> = words.iter().map(word_of).collect();
-            run(call, times, &words, zone.own(call));
-        }
         _ => refuse("no such call"),
     }
 }
 
-pub fn main<Z: Zone>() {
+pub fn main<Z: Calls>() {
     let arguments: Vec<String> = std::env::args().skip(1).collect();
     let texts: Vec<&str> = arguments.iter().map(String::as_str).collect();
     match texts[..] {

@@ -5,7 +5,7 @@ mod loops;
 
 use chrono::{DateTime, Datelike, Duration, FixedOffset, LocalResult, NaiveDate, NaiveDateTime, Offset, SecondsFormat, TimeZone, Timelike};
 use chrono_tz::Tz;
-use loops::{refuse, Entry, Local, Shown, Zone};
+use loops::{refuse, Calls, Entry, Lines, Local, Shown};
 
 fn of(local: NaiveDateTime) -> Local {
     let (date, time) = (local.date(), local.time());
@@ -49,10 +49,28 @@ enum Either {
     Named(Tz),
 }
 
-impl Zone for Either {
+impl Lines for Either {
+    fn named(&self, instant: i64, nanoseconds: u32, take: impl FnOnce(Option<(Shown, &str)>)) {
+        match self {
+            Either::Fixed(zone) => take(Some((shown(&zone.timestamp_opt(instant, nanoseconds).unwrap()), "-"))),
+            Either::Named(zone) => {
+                let date_time = zone.timestamp_opt(instant, nanoseconds).unwrap();
+                take(Some((shown(&date_time), &date_time.offset().to_string())));
+            }
+        }
+    }
+
+    fn found(&self, local: Local, nanoseconds: u32, take: impl FnMut(usize, Option<Entry<'_>>)) {
+        match self {
+            Either::Fixed(zone) => found(zone, |_| "-".to_owned(), local, nanoseconds, take),
+            Either::Named(zone) => found(zone, ToString::to_string, local, nanoseconds, take),
+        }
+    }
+}
+
+impl Calls for Either {
     type Held = DateTime<Tz>;
     type Moment = NaiveDateTime;
-    type Slots = ();
 
     fn new(option: &str, argument: &str) -> Self {
         match option {
@@ -77,23 +95,6 @@ impl Zone for Either {
         match self {
             Either::Fixed(zone) => shown(&zone.timestamp_opt(instant, nanoseconds).unwrap()),
             Either::Named(zone) => shown(&zone.timestamp_opt(instant, nanoseconds).unwrap()),
-        }
-    }
-
-    fn named(&self, instant: i64, nanoseconds: u32, take: impl FnOnce(Option<(Shown, &str)>)) {
-        match self {
-            Either::Fixed(zone) => take(Some((shown(&zone.timestamp_opt(instant, nanoseconds).unwrap()), "-"))),
-            Either::Named(zone) => {
-                let date_time = zone.timestamp_opt(instant, nanoseconds).unwrap();
-                take(Some((shown(&date_time), &date_time.offset().to_string())));
-            }
-        }
-    }
-
-    fn found(&self, local: Local, nanoseconds: u32, take: impl FnMut(usize, Option<Entry<'_>>)) {
-        match self {
-            Either::Fixed(zone) => found(zone, |_| "-".to_owned(), local, nanoseconds, take),
-            Either::Named(zone) => found(zone, ToString::to_string, local, nanoseconds, take),
         }
     }
 
