@@ -37,9 +37,8 @@ static DAYS: [(Parts, i64, Option<Parts>); 9] = [
 fn days_later(rt: HostRuntime) -> Result<(), Fail> {
     for &(parts, days, expected) in DAYS.iter() {
         let date = date_of(parts).ok_or("no date")?;
-        let later = date.checked_add_days(days);
-        expect_eq(&rt, &later.map(parts_of), &expected);
-        if let Some(later) = later {
+        expect_eq(&rt, &date.checked_add_days(days).map(parts_of), &expected);
+        if let Some(later) = date.checked_add_days(days) {
             expect_eq(&rt, &later.days_since(date), &days);
         }
     }

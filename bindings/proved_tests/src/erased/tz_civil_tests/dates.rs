@@ -105,7 +105,8 @@ fn dates_of_date_times() -> Result<(), Fail> {
         _ => None,
     };
     expect_eq(&rt, &fault, &Some(DateTimeError::InvalidHour));
-    let past = match Date::MAX.at(23, 59, 60, 0) {
+    let last = Date::new(2_147_483_647, 12, 31)?;
+    let past = match last.at(23, 59, 60, 0) {
         Err(TzError::OutOfRange) => true,
         _ => false,
     };
