@@ -32,8 +32,8 @@ extern "C" {
 #endif
 
 /* The version, and as a number that can be compared: 1000000 * major + 1000 * minor + patch. */
-#define TZ_VERSION "2.0.0"
-#define TZ_VERSION_NUMBER 2000000
+#define TZ_VERSION "3.0.0"
+#define TZ_VERSION_NUMBER 3000000
 
 /* The number of this header's layout: the first number of `tz_layout`. */
 #define TZ_ABI 2

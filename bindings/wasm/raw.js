@@ -1,7 +1,7 @@
 // Generated from bindings/c/tz.h and tz_zones.h by bindings/wasm/generate. Change these instead.
 
 /** The release, and the number of the layout. */
-export const VERSION = '2.0.0';
+export const VERSION = '3.0.0';
 export const ABI = 2;
 
 /** The codes that a function returns, by their names without `TZ_`. */

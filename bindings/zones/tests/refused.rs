@@ -26,7 +26,7 @@ impl Package {
         let tz = from.with_file_name("rust");
         let manifest = format!(
             "[package]\nname = \"tz-zones\"\nedition = \"2024\"\n[workspace]\n\
-             [dependencies]\ntz-rs = {{ path = {tz:?}, default-features = false }}\n"
+             [dependencies]\ntz = {{ path = {tz:?}, default-features = false }}\n"
         );
         fs::write(to.join("Cargo.toml"), manifest).unwrap();
         Package(to)

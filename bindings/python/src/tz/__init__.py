@@ -23,7 +23,7 @@ from ._library import LocalTime, TzError, built_in_names, built_in_version, erro
 from ._zone import ZoneInfo, implementation
 
 # The release, as TZ_VERSION of tz.h.
-__version__ = "2.0.0"
+__version__ = "3.0.0"
 
 __all__ = [
     "ZoneInfo",
