@@ -112,7 +112,28 @@ EXACT = {
     "crates/tz/src/datetime/utc_date_time.rt": (
         ("self.checked_add(duration).unwrap()", 'self.checked_add(duration).expect("attempt to add with overflow")'),
         ("self.checked_sub(duration).unwrap()", 'self.checked_sub(duration).expect("attempt to subtract with overflow")'),
+        # Where Rattle requires a proof, Rust panics.
+        (
+            "/// The date time later by a duration. Rattle requires a proof that it is not past\n/// [`UtcDateTime::MAX`]; the Rust crate panics if it is. "
+            "[`UtcDateTime::checked_add`] returns\n/// `None` then.\n",
+            "/// The date time later by a duration.\n///\n/// # Panics\n///\n/// If it is past [`UtcDateTime::MAX`]. [`UtcDateTime::checked_add`] returns `None` then.\n",
+        ),
+        (
+            "/// The date time earlier by a duration. Rattle requires a proof that it is not before\n/// [`UtcDateTime::MIN`]; the Rust crate panics if it is. "
+            "[`UtcDateTime::checked_sub`] returns\n/// `None` then.\n",
+            "/// The date time earlier by a duration.\n///\n/// # Panics\n///\n/// If it is before [`UtcDateTime::MIN`]. [`UtcDateTime::checked_sub`] returns `None` then.\n",
+        ),
+        (
+            "/// Adds a duration, with the requirement of `+`: the sum is not past [`UtcDateTime::MAX`].\n",
+            "/// Adds a duration.\n///\n/// # Panics\n///\n/// If the sum is past [`UtcDateTime::MAX`].\n",
+        ),
+        (
+            "/// Subtracts a duration, with the requirement of `-`: the difference is not before\n/// [`UtcDateTime::MIN`].\n",
+            "/// Subtracts a duration.\n///\n/// # Panics\n///\n/// If the difference is before [`UtcDateTime::MIN`].\n",
+        ),
     ),
+    # The list of the layer by hand lends its entries.
+    "crates/tz/src/datetime/found.rt": (("    pub(super) found: Vec<", "    pub(crate) found: Vec<"),),
     # The public type is by hand.
     "crates/tz_zone/src/timezone/zone_names.rt": (
         ("(super::TimeZone::named)", "(crate::timezone::TimeZone::named)"),

@@ -35,8 +35,12 @@ def erased(package, path, text):
     text = made_constant(path, text)
     text = with_methods(path, text)
     text = with_bounds(path, text)
+    if package.features:
+        text = with_must_use(path, text)
     text = found_again(with_paths(package, path, text), texts)
     text = with_open_fields(text, erasure.OPEN_FIELDS.get(path, ()))
+    # Links of docs name the crate of another crate's item.
+    text = re.sub(r"(?m)^(\s*//[/!].*\]\()tz::", r"\1crate::", text)
     if package.exports and path.endswith("/src/lib.rt"):
         text = with_open_modules(text)
     return with_examples(path, text)
@@ -303,6 +307,18 @@ def with_views(path, text):
                 line = new
             new = re.sub(r"\bCounted,\s*|,\s*Counted\b|^use [\w:]*::Counted;$", "", line)
             edits.append((found.start(), found.end(), new))
+    return edited(text, edits)
+
+
+def with_must_use(path, text):
+    """Who drops the result of a public function that changes nothing has called it in vain. (A `Result` is marked by itself.)"""
+    edits = []
+    for function in functions_of(path, text):
+        head = text[function.head : function.body]
+        result = head.rpartition("->")[2].partition("where")[0].split()
+        if "->" not in head or not head.startswith("pub ") or "&mut " in head or result[0].startswith(("Result<", "fmt::Result")):
+            continue
+        edits.append((function.head, function.head, "#[must_use]\n"))
     return edited(text, edits)
 
 

@@ -282,23 +282,29 @@ class Methods(unittest.TestCase):
             "/// Docs.\n#[inline]\npub const fn one(zone: &Zone<'_>, at: i64) -> Option<i64>\n    ensures { x }\n{\n    Some(at)\n}\n", one="Zone::two"
         )
         wanted = (
-            "#[inline] pub const fn one(zone: &Zone<'_>, at: i64) -> Option<i64> { Some(at) }"
-            " impl Zone<'_> { /// Docs. #[inline] pub const fn two(&self, at: i64) -> Option<i64> { one(self, at) } }"
+            "#[inline] #[must_use] pub const fn one(zone: &Zone<'_>, at: i64) -> Option<i64> { Some(at) }"
+            " impl Zone<'_> { /// Docs. #[inline] #[must_use] pub const fn two(&self, at: i64) -> Option<i64> { one(self, at) } }"
         )
         self.assertEqual(wanted, made)
 
     def test_associated_functions(self):
         made = self.made("impl Date {\n    /// Docs.\n    pub fn of(from: &Time) -> Self {\n        Date {}\n    }\n}\n", Date__of="Time::date")
-        self.assertIn("impl Date { #[doc(hidden)] pub fn of(from: &Time)", made)
-        self.assertIn("impl Time { /// Docs. pub fn date(&self) -> Date { Date::of(self) } }", made)
+        self.assertIn("impl Date { #[doc(hidden)] #[must_use] pub fn of(from: &Time)", made)
+        self.assertIn("impl Time { /// Docs. #[must_use] pub fn date(&self) -> Date { Date::of(self) } }", made)
         made = self.made("pub fn read(text: &str) -> Time {\n    Time {}\n}\n", read="Time::read")
-        self.assertIn("impl Time { pub fn read(text: &str) -> Time { read(text) } }", made)
+        self.assertIn("impl Time { #[must_use] pub fn read(text: &str) -> Time { read(text) } }", made)
+
+    def test_results_that_are_used(self):
+        made = " ".join(erased("pub fn one(&self) -> u8 {\n    1\n}\n").split())
+        self.assertIn("#[must_use] pub fn one", made)
+        for head in ("pub fn one()", "fn one() -> u8", "pub fn one(two: &mut u8) -> u8", "pub fn one() -> Result<u8, Two>", "pub(crate) fn one() -> u8"):
+            self.assertNotIn("must_use", erased(f"{head} {{\n    1\n}}\n"))
 
     def test_lifetimes_and_names(self):
         made = self.made("pub fn one<'a, 'b>(zone: Zone<'a>, one: &'b str) -> Two<'a, 'b> {\n    Two {}\n}\n", one="Zone::one")
-        self.assertIn("impl<'a> Zone<'a> { pub fn one<'b>(self, one: &'b str) -> Two<'a, 'b> { self::one(self, one) } }", made)
+        self.assertIn("impl<'a> Zone<'a> { #[must_use] pub fn one<'b>(self, one: &'b str) -> Two<'a, 'b> { self::one(self, one) } }", made)
         made = self.made("pub fn one<'a>(time: &'a Time, by: &'a [u8]) -> Two<'a> {\n    Two {}\n}\n", one="Time::one")
-        self.assertIn("impl Time { pub fn one<'a>(&'a self, by: &'a [u8]) -> Two<'a> { one(self, by) } }", made)
+        self.assertIn("impl Time { #[must_use] pub fn one<'a>(&'a self, by: &'a [u8]) -> Two<'a> { one(self, by) } }", made)
 
     def test_examples(self):
         made = self.made(

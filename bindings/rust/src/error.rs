@@ -1,4 +1,7 @@
-//! Errors.
+//! The errors of all calls. [`TzError`] has a variant for each kind, and [`Error`] also those of files.
+//!
+//! Errors of parts are in modules: of fields in [`datetime`](mod@datetime), of TZif files and TZ strings in [`parse`], of zones, rules and types in
+//! [`timezone`](mod@timezone).
 
 #[cfg(feature = "alloc")]
 pub use crate::proved::tz_base::error::ReadFault;
@@ -28,11 +31,13 @@ impl ColumnError {
     }
 
     /// The first place that has an error.
+    #[must_use]
     pub const fn place(&self) -> usize {
         self.place
     }
 
     /// The error there.
+    #[must_use]
     pub const fn error(&self) -> &TzError {
         &self.error
     }

@@ -109,6 +109,7 @@ impl DateTime {
     /// # Ok::<(), tz::TzError>(())
     /// ```
     #[inline]
+    #[must_use]
     pub fn format<'a>(&self, pattern: Pattern<'a>) -> FormattedDateTime<'a> {
         pattern.format(self)
     }
@@ -127,6 +128,7 @@ impl UtcDateTime {
     /// # Ok::<(), tz::TzError>(())
     /// ```
     #[inline]
+    #[must_use]
     pub fn format<'a>(&self, pattern: impl Into<UtcPattern<'a>>) -> FormattedUtcDateTime<'a> {
         pattern.into().format(self)
     }

@@ -1,2 +1,3 @@
-//! The code of docs/GUIDE.md.
+//! The code of README.md and of docs/GUIDE.md.
+#![doc = include_str!("../README.md")]
 #![doc = include_str!("../../../docs/GUIDE.md")]

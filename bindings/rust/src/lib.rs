@@ -1,7 +1,79 @@
+//! Unix time to local date and time and back, for every year of an `i32`: exact searches, changes of clocks, dates, and patterns to print by.
+//!
+//! ```
+//! use tz::datetime::{Disambiguation, Meaning};
+//! use tz::timezone::{AlternateTime, MonthWeekDay, RuleDay, TransitionRule};
+//! use tz::{DateTime, LocalTimeType, TimeZoneRef};
+//!
+//! # fn main() -> Result<(), tz::TzError> {
+//! // With the feature `std` also `TimeZone::named("Europe/Paris")?`; the crate tz-zones has zones as constants.
+//! let types = [LocalTimeType::new(3600, false, Some(b"CET"))?, LocalTimeType::new(7200, true, Some(b"CEST"))?];
+//! let last_sunday = |month| MonthWeekDay::new(month, 5, 0).map(RuleDay::MonthWeekDay);
+//! let summer = AlternateTime::new(types[0], types[1], last_sunday(3)?, 7200, last_sunday(10)?, 10_800)?;
+//! let rule = Some(TransitionRule::Alternate(summer));
+//! let zone = TimeZoneRef::new(&[], &types, &[], &rule)?;
+//!
+//! // What clocks show at an instant.
+//! let shown = DateTime::from_timespec(954_032_400, 0, zone)?;
+//! assert_eq!(shown.to_string(), "2000-03-26T03:00:00.000000000+02:00");
+//!
+//! // When clocks show a local time: at 3:00 they are set back to 2:00, so half past two comes twice.
+//! let (first, last) = match DateTime::meaning(2000, 10, 29, 2, 30, 0, 0, zone)? {
+//!     Meaning::Twice { first, last } => (first, last),
+//!     _ => unreachable!(),
+//! };
+//! assert_eq!(last.unix_time() - first.unix_time(), 3600);
+//! let chosen = DateTime::find_one(2000, 10, 29, 2, 30, 0, 0, Disambiguation::Later, zone)?;
+//! assert_eq!(chosen, Some(last));
+//!
+//! // When clocks change next.
+//! let change = zone.following(954_032_400).unwrap();
+//! assert_eq!(change.unix_time(), 972_781_200);
+//! # Ok(())
+//! # }
+//! ```
+//!
+//! # Which call
+//!
+//! | to | call |
+//! |---|---|
+//! | get a zone by its name, or of a file's bytes | `TimeZone::named`, `TimeZone::from_tz_data` |
+//! | get what clocks show at an instant | [`DateTime::from_timespec`], [`UtcDateTime::from_timespec`] |
+//! | get the offset alone | [`TimeZoneRef::find_local_time_type`] |
+//! | choose one instant of a local time | [`DateTime::from_local`], [`DateTime::find_one`] |
+//! | know whether a local time comes once, twice or never | [`DateTime::meaning`] |
+//! | get all instants of a local time | `DateTime::find`, or without an allocation [`DateTime::find_n`] |
+//! | get the next or the last change of the clock | [`TimeZoneRef::following`], [`TimeZoneRef::preceding`] |
+//! | get a span of time in which the clock does not change | [`TimeZoneRef::segment_at`] |
+//! | convert many values | [`TimeZoneRef::offsets_at`], [`TimeZoneRef::instants_of`] |
+//! | go from one date to another, or to the start of a day | [`Date`], [`TimeZoneRef::start_of_day`] |
+//! | print by a pattern | [`DateTime::format`], with [`pattern!`] |
+//! | read RFC 3339 | [`ParsedDateTime::parse`] |
+//!
+//! An instant is a Unix time, an `i64` of seconds since 1970-01-01T00:00:00Z. A [`DateTime`] is what clocks show at an instant, with its offset and without
+//! its zone. A [`UtcDateTime`] is that of UTC, and also stands for a local time without a zone.
+//!
+//! # Features
+//!
+//! - without any: all calls that this page links to. They need no allocator, and many are `const fn`, so that zones can stand in constants
+//! - `alloc`: also `TimeZone`, which owns its parts, `TimeZoneSettings` with a reader of your own, and `DateTime::find`
+//! - `std`, the default: also the system's zone files and clock, and `std::time::SystemTime`
+//!
+//! All types are `Send` and `Sync`, and hold neither locks nor caches. There is no global state.
+//!
+//! # Errors and panics
+//!
+//! Whatever the arguments, calls return errors. What can panic says so: `+` and `-` of a duration (as std's do), conversions into a `SystemTime`, and copies
+//! that allocate. Bytes of a file, TZ strings and texts may come from anyone.
+//!
+//! # What is proved
+//!
+//! Searches find each instant and each jump, once and in order, and lookups return what the standards say: these are theorems about the source from which
+//! most of this crate is generated. The repository's README says what they rest on.
 #![forbid(unsafe_code)]
 #![deny(missing_docs)]
 #![cfg_attr(not(feature = "std"), no_std)]
-#![doc = include_str!("../README.md")]
+#![cfg_attr(docsrs, feature(doc_cfg), doc(auto_cfg(hide(feature = "inner"))))]
 
 // The proofs are for 64 bits. docs/WIDTHS.md argues that 32 do as well.
 #[cfg(not(any(target_pointer_width = "64", target_pointer_width = "32")))]
@@ -33,7 +105,11 @@ mod proved;
 #[doc(hidden)]
 #[allow(dead_code, missing_docs, unused_imports, unused_variables)]
 // Docs of what the crate does not have here name laws.
-#[allow(clippy::all, rustdoc::broken_intra_doc_links)]
+#[allow(
+    clippy::all,
+    clippy::must_use_candidate,
+    rustdoc::broken_intra_doc_links
+)]
 #[deny(clippy::incompatible_msrv)]
 pub mod proved;
 #[cfg(not(feature = "inner"))]
@@ -41,7 +117,7 @@ pub mod proved;
 mod shim;
 #[cfg(feature = "inner")]
 #[doc(hidden)]
-#[allow(missing_docs, clippy::new_without_default)]
+#[allow(missing_docs, clippy::must_use_candidate, clippy::new_without_default)]
 pub mod shim;
 
 pub use datetime::{DateTime, UtcDateTime};

@@ -371,7 +371,17 @@ fn lists_are_equal_if_their_entries_are() {
             assert_eq!(list.clone() == *other, place == other_place);
         }
     }
-    let lengths = lists.map(|list| list.into_inner().len());
+    for list in &lists {
+        let entries = list.clone().into_inner();
+        assert_eq!(list.as_slice(), entries);
+        assert_eq!(
+            (list.len(), list.is_empty()),
+            (entries.len(), entries.is_empty())
+        );
+        assert!(list.iter().eq(&entries) && list.into_iter().eq(&entries));
+        assert!(list.clone().into_iter().eq(entries));
+    }
+    let lengths = lists.map(|list| list.len());
     assert_eq!(lengths, [0, 1, 2, 1, 1]);
 }
 

@@ -8,8 +8,8 @@ use crate::proved::tz_base::fields::Fields;
 use crate::proved::tz_zone::inner::plain;
 use crate::shim::alloc::Global;
 use crate::timezone::TimeZoneRef;
-use alloc::vec::Vec;
-use core::fmt;
+use alloc::vec::{self, Vec};
+use core::{fmt, slice};
 
 /// The date times that a search found, by rising Unix time: the list that [`DateTime::find`] returns. It may be empty.
 #[derive(PartialEq)]
@@ -17,23 +17,68 @@ pub struct FoundDateTimeList(FoundList<Global>);
 
 impl FoundDateTimeList {
     /// The date time, if exactly one was found and no jump, and otherwise `None`.
+    #[must_use]
     pub fn unique(&self) -> Option<DateTime> {
         self.0.unique()
     }
 
     /// The earliest date time; of a jump the side before it. `None` if nothing was found.
+    #[must_use]
     pub fn earliest(&self) -> Option<DateTime> {
         self.0.earliest()
     }
 
     /// The latest date time; of a jump the side after it. `None` if nothing was found.
+    #[must_use]
     pub fn latest(&self) -> Option<DateTime> {
         self.0.latest()
     }
 
-    /// What was found.
+    /// How many were found.
+    #[must_use]
+    pub fn len(&self) -> usize {
+        self.as_slice().len()
+    }
+
+    /// Whether none was found.
+    #[must_use]
+    pub fn is_empty(&self) -> bool {
+        self.as_slice().is_empty()
+    }
+
+    /// What was found, in order.
+    #[must_use]
+    pub fn as_slice(&self) -> &[FoundDateTimeKind] {
+        &self.0.found
+    }
+
+    /// What was found, in order, one after another.
+    pub fn iter(&self) -> slice::Iter<'_, FoundDateTimeKind> {
+        self.as_slice().iter()
+    }
+
+    /// What was found, in order.
+    #[must_use]
     pub fn into_inner(self) -> Vec<FoundDateTimeKind> {
         self.0.into_inner().into_std()
+    }
+}
+
+impl IntoIterator for FoundDateTimeList {
+    type Item = FoundDateTimeKind;
+    type IntoIter = vec::IntoIter<FoundDateTimeKind>;
+
+    fn into_iter(self) -> Self::IntoIter {
+        self.into_inner().into_iter()
+    }
+}
+
+impl<'a> IntoIterator for &'a FoundDateTimeList {
+    type Item = &'a FoundDateTimeKind;
+    type IntoIter = slice::Iter<'a, FoundDateTimeKind>;
+
+    fn into_iter(self) -> Self::IntoIter {
+        self.iter()
     }
 }
 
@@ -43,6 +88,9 @@ impl Default for FoundDateTimeList {
     }
 }
 
+/// # Panics
+///
+/// If an allocation fails.
 impl Clone for FoundDateTimeList {
     fn clone(&self) -> Self {
         FoundDateTimeList(self.0.try_clone().expect("out of memory"))

@@ -1,4 +1,6 @@
-//! Date times.
+//! What clocks show: [`DateTime`] in a zone, [`UtcDateTime`] in UTC; and searches for a local time, with what they return.
+//!
+//! [`Disambiguation`] is how one instant is chosen where clocks skip a local time or show it twice, and [`Meaning`] says which it is.
 
 #[cfg(feature = "alloc")]
 mod find;

@@ -59,12 +59,22 @@ impl TryFrom<SystemTime> for UtcDateTime {
     }
 }
 
+/// The system's time of the instant.
+///
+/// # Panics
+///
+/// If the system's time does not reach it, as on Windows before 1601.
 impl From<UtcDateTime> for SystemTime {
     fn from(utc_date_time: UtcDateTime) -> Self {
         system_time(utc_date_time.duration_since(UtcDateTime::UNIX_EPOCH))
     }
 }
 
+/// The system's time of the instant.
+///
+/// # Panics
+///
+/// If the system's time does not reach it, as on Windows before 1601.
 impl From<DateTime> for SystemTime {
     fn from(date_time: DateTime) -> Self {
         system_time(date_time.duration_since(EPOCH))

@@ -1,4 +1,7 @@
-//! Time zones.
+//! Time zones: [`TimeZoneRef`], which borrows its parts, and with the feature `alloc` `TimeZone`, which owns them.
+//!
+//! A zone has transitions, [local time types](LocalTimeType), leap seconds and a [rule](TransitionRule) for the time after the last transition, as in RFC
+//! 9636. Each is checked when the zone is made. A [`Change`] and a [`Segment`] are what a zone's clock does.
 
 mod columns;
 #[cfg(feature = "alloc")]

@@ -52,6 +52,11 @@ impl TimeZone {
     }
 
     /// The zone that has UTC's type alone. [`TimeZoneRef::utc`] makes it without allocating.
+    ///
+    /// # Panics
+    ///
+    /// If an allocation fails.
+    #[must_use]
     pub fn utc() -> Self {
         TimeZone::of_type(LocalTimeType::utc())
     }
@@ -61,6 +66,10 @@ impl TimeZone {
     /// # Errors
     ///
     /// [`LocalTimeTypeError::InvalidUtcOffset`] if the offset is `i32::MIN`.
+    ///
+    /// # Panics
+    ///
+    /// If an allocation fails.
     pub fn fixed(ut_offset: i32) -> Result<Self, LocalTimeTypeError> {
         Ok(TimeZone::of_type(LocalTimeType::with_ut_offset(ut_offset)?))
     }
@@ -85,6 +94,7 @@ impl TimeZone {
     // tz-rs has this name, and `AsRef` could not return a value.
     #[allow(clippy::should_implement_trait)]
     #[inline]
+    #[must_use]
     pub fn as_ref(&self) -> TimeZoneRef<'_> {
         self.0.as_ref()
     }
@@ -110,31 +120,39 @@ impl TimeZone {
     }
 
     /// The segment around an instant, as [`TimeZoneRef::segment_at`] returns it.
+    #[must_use]
     pub fn segment_at(&self, unix_time: i64) -> Segment<'_> {
         self.as_ref().segment_at(unix_time)
     }
 
     /// The first change after an instant, as [`TimeZoneRef::following`] returns it.
+    #[must_use]
     pub fn following(&self, unix_time: i64) -> Option<Change<'_>> {
         self.as_ref().following(unix_time)
     }
 
     /// The last change before an instant, as [`TimeZoneRef::preceding`] returns it.
+    #[must_use]
     pub fn preceding(&self, unix_time: i64) -> Option<Change<'_>> {
         self.as_ref().preceding(unix_time)
     }
 
     /// The changes after an instant, as [`TimeZoneRef::changes_after`] returns them.
+    #[must_use]
     pub fn changes_after(&self, unix_time: i64) -> ChangesAfter<'_> {
         self.as_ref().changes_after(unix_time)
     }
 
     /// The changes before an instant, as [`TimeZoneRef::changes_before`] returns them.
+    #[must_use]
     pub fn changes_before(&self, unix_time: i64) -> ChangesBefore<'_> {
         self.as_ref().changes_before(unix_time)
     }
 }
 
+/// # Panics
+///
+/// If an allocation fails.
 impl Clone for TimeZone {
     fn clone(&self) -> Self {
         TimeZone(self.0.try_clone().expect("out of memory"))

@@ -94,12 +94,14 @@ fn expect<'a, T>(part: DateTimePart, text: &'a [u8], read: Option<T>) -> Result<
 }
 
 /// The value of a digit, which is below 10; for every other byte it is 10 or more.
+#[must_use]
 pub fn value_of(byte: u8) -> u8 {
     byte.wrapping_sub(b'0')
 }
 
 /// The number of the digits at the beginning of the bytes, and how many these are. In the position
 /// of a number of 10^19 or more stands some number that is no less than 10^19.
+#[must_use]
 pub fn read_digits(text: &[u8]) -> (u64, usize) {
     let mut size = 0u64;
     for (position, byte) in text.iter().enumerate() {
@@ -346,17 +348,20 @@ impl ParsedDateTime {
     }
 
     /// The local time.
+    #[must_use]
     pub const fn local(&self) -> UtcDateTime {
         self.local
     }
 
     /// The offset from UTC in seconds, 0 for `Z`, or `None` if the text has none.
+    #[must_use]
     pub const fn ut_offset(&self) -> Option<i32> {
         self.ut_offset
     }
 
     /// The Unix time of the local time at the offset, or `None` if the text has no offset. Second
     /// 60 counts as the next minute's second 0.
+    #[must_use]
     pub const fn unix_time(&self) -> Option<i64> {
         let _ = self.local.fields();
         Some(

@@ -6,6 +6,7 @@ use crate::proved::tz_base::fields::Fields;
 
 /// What stands between the year and the nanoseconds: month and day, and the time of day up to the
 /// point.
+#[must_use]
 pub fn middle_of(fields: &Fields) -> [u8; 16] {
     let (month, day) = (pair_of(fields.month), pair_of(fields.month_day));
     let hour = pair_of(fields.hour);

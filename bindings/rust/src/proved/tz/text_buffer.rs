@@ -14,6 +14,7 @@ static PAIRS: [u8; 200] =
     *b"00010203040506070809101112131415161718192021222324252627282930313233343536373839404142434445464748495051525354555657585960616263646566676869707172737475767778798081828384858687888990919293949596979899";
 
 /// The two digits of a number below 100.
+#[must_use]
 pub fn pair_of(number: u8) -> [u8; 2] {
     let position = usize::from(number) * 2;
     let mut pair = [0; 2];
@@ -22,12 +23,14 @@ pub fn pair_of(number: u8) -> [u8; 2] {
 }
 
 /// The digits of a number that has four: the first two, and the last two.
+#[must_use]
 pub fn two_pairs(number: u32) -> ([u8; 2], [u8; 2]) {
     (pair_of((number / 100) as u8), pair_of((number % 100) as u8))
 }
 
 impl TextBuffer {
     /// An empty text.
+    #[must_use]
     pub const fn new() -> Self {
         TextBuffer {
             bytes: [0; 128],
@@ -41,11 +44,13 @@ impl TextBuffer {
     }
 
     /// The text's bytes.
+    #[must_use]
     pub const fn as_bytes(&self) -> &[u8] {
         self.bytes.split_at(self.len).0
     }
 
     /// The text.
+    #[must_use]
     pub const fn as_str(&self) -> &str {
         crate::shim::text(self.as_bytes())
     }

@@ -174,6 +174,7 @@ impl TzString {
     ///     }
     /// }
     /// ```
+    #[must_use]
     pub fn from_rule(rule: &TransitionRule) -> Option<TzString> {
         if !is_writable(rule) {
             return None;
@@ -190,6 +191,7 @@ impl TzString {
     }
 
     /// The text.
+    #[must_use]
     pub const fn as_str(&self) -> &str {
         self.text.as_str()
     }

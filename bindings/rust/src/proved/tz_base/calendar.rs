@@ -30,27 +30,32 @@ const ADDED_MARCH_DAYS: i64 = 784_353_144_339;
 const DAYS_FROM_MARCH: [u16; 12] = [306, 337, 0, 31, 61, 92, 122, 153, 184, 214, 245, 275];
 
 /// The year, moved.
+#[must_use]
 pub const fn moved_year(year: i32) -> u64 {
     (year as i64 + ADDED_YEARS) as u64
 }
 
 /// The year that a moved year stands for.
+#[must_use]
 pub const fn year_of_moved(years: u64) -> i32 {
     (years as i64 - ADDED_YEARS) as i32
 }
 
 /// Seconds from 1970-01-01 00:00:00 on, counted from January 1st of the year -2147484000 instead.
+#[must_use]
 pub const fn moved_seconds(seconds: i64) -> u64 {
     (seconds + ADDED_SECONDS) as u64
 }
 
 /// Whether the year is leap: divisible by 4 but not by 100, or divisible by 400.
+#[must_use]
 pub const fn is_leap_year(year: i32) -> bool {
     is_moved_year_leap(moved_year(year))
 }
 
 /// Whether a moved year is leap. One that is divisible by 100 is divisible by 400 exactly if it is
 /// by 16.
+#[must_use]
 pub const fn is_moved_year_leap(years: u64) -> bool {
     if 100 * centuries_before(years) == years {
         years % 16 == 0
@@ -66,6 +71,7 @@ const fn centuries_before(years: u64) -> u64 {
 }
 
 /// How many days a month of a leap year or of another one has.
+#[must_use]
 pub const fn days_of_month(leap: bool, month: u8) -> u8 {
     match month {
         2 => {
@@ -81,6 +87,7 @@ pub const fn days_of_month(leap: bool, month: u8) -> u8 {
 }
 
 /// How many days the month of a year has.
+#[must_use]
 pub const fn days_in_month(year: i32, month: u8) -> u8 {
     days_of_month(is_leap_year(year), month)
 }
@@ -94,16 +101,19 @@ pub(crate) const fn has_month_day(year: i32, month: u8, month_day: u8) -> bool {
 }
 
 /// The number of January 1st of the year, where 1970-01-01 has the number 0.
+#[must_use]
 pub const fn first_day_of_year(year: i32) -> i64 {
     days_before_moved_year(moved_year(year)) as i64 - ADDED_DAYS
 }
 
 /// The days before a moved year, from January 1st of the year -2147484000 on.
+#[must_use]
 pub const fn days_before_moved_year(years: u64) -> u64 {
     (1461 * years + 3) / 4 - 3 * centuries_before(years) / 4
 }
 
 /// The days of a leap year or of another one before a month of it.
+#[must_use]
 pub const fn days_before_month(leap: bool, month: u8) -> u16 {
     let index = month as usize - 1;
     if leap {
@@ -136,12 +146,14 @@ const fn days_of_march_years(years: u64) -> u64 {
 
 /// The number of the day, where 1970-01-01 has the number 0. A day past the end of its month counts
 /// on.
+#[must_use]
 pub const fn days_since_unix_epoch(year: i32, month: u8, month_day: u8) -> i64 {
     let days_before = days_of_march_years(moved_march_year(year, month)) + days_from_march(month);
     (days_before + month_day as u64) as i64 - ADDED_MARCH_DAYS
 }
 
 /// The week day of a day by its number, from Sunday = 0.
+#[must_use]
 pub const fn week_day_of_day(day: i64) -> u8 {
     (day + 4).rem_euclid(7) as u8
 }

@@ -39,11 +39,13 @@ const FIRST_READING: i64 = -67_768_100_567_971_200;
 const LAST_READING: i64 = 67_767_976_233_532_799;
 
 /// Whether the reading is in a year of 32 bits.
+#[must_use]
 pub const fn is_reading(reading: i64) -> bool {
     FIRST_READING <= reading && reading <= LAST_READING
 }
 
 /// The reading of a clock with this offset from UTC at a Unix time, if it is in a year of 32 bits.
+#[must_use]
 pub const fn local_reading(unix_time: i64, ut_offset: i32) -> Option<i64> {
     // A sum that wraps is in no year of 32 bits, and nor is the true one.
     let reading = unix_time.wrapping_add(ut_offset as i64);
@@ -56,6 +58,7 @@ pub const fn local_reading(unix_time: i64, ut_offset: i32) -> Option<i64> {
 
 impl Fields {
     /// The fields with these values.
+    #[must_use]
     pub const fn new(
         year: i32,
         month: u8,
@@ -109,6 +112,7 @@ impl Fields {
 
     /// The seconds from 1970-01-01 00:00:00 to the fields. Second 60 reads as the next minute's
     /// first second.
+    #[must_use]
     pub const fn reading(&self) -> i64 {
         let second_of_day = 3600 * self.hour as u32 + 60 * self.minute as u32 + self.second as u32;
         SECONDS_PER_DAY * self.day() + second_of_day as i64
@@ -120,6 +124,7 @@ impl Fields {
     }
 
     /// The fields that a clock shows at the reading.
+    #[must_use]
     pub const fn from_reading(reading: i64, nanoseconds: u32) -> Fields {
         let seconds = moved_seconds(reading);
         let (year, month, month_day) = date_of_day(seconds / 86_400);
@@ -136,23 +141,27 @@ impl Fields {
     }
 
     /// The week day, from Sunday = 0.
+    #[must_use]
     pub const fn week_day(&self) -> u8 {
         week_day_of_day(self.day())
     }
 
     /// The day of the year, from January 1st = 0.
+    #[must_use]
     pub const fn year_day(&self) -> u16 {
         days_before_month(is_leap_year(self.year), self.month) + self.month_day as u16 - 1
     }
 }
 
 /// Nanoseconds from 1970-01-01T00:00:00Z on.
+#[must_use]
 pub const fn total_nanoseconds(unix_time: i64, nanoseconds: u32) -> i128 {
     NANOSECONDS_PER_SECOND as i128 * unix_time as i128 + nanoseconds as i128
 }
 
 /// The seconds of a total of nanoseconds, rounded down, and the nanoseconds that remain, if the
 /// seconds fit 64 bits.
+#[must_use]
 pub const fn timespec(total: i128) -> Option<(i64, u32)> {
     let nanoseconds_per_second = NANOSECONDS_PER_SECOND as i128;
     let seconds = total.div_euclid(nanoseconds_per_second);

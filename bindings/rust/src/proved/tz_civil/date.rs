@@ -72,11 +72,13 @@ impl Date {
     }
 
     #[doc(hidden)]
+    #[must_use]
     pub const fn of(date_time: &UtcDateTime) -> Self {
         Date::of_fields(&UtcData::of(date_time).fields)
     }
 
     #[doc(hidden)]
+    #[must_use]
     pub const fn of_date_time(date_time: &DateTime) -> Self {
         Date::of_fields(&DateTimeData::of(date_time).fields)
     }
@@ -108,26 +110,31 @@ impl Date {
     }
 
     /// The year; 0 is the year before 1.
+    #[must_use]
     pub const fn year(self) -> i32 {
         self.year
     }
 
     /// The month, from 1 to 12.
+    #[must_use]
     pub const fn month(self) -> u8 {
         self.month
     }
 
     /// The day of the month, from 1 to 31.
+    #[must_use]
     pub const fn month_day(self) -> u8 {
         self.month_day
     }
 
     /// The number of the day: how many days it is after 1970-01-01.
+    #[must_use]
     pub const fn day_number(self) -> i64 {
         days_since_unix_epoch(self.year, self.month, self.month_day)
     }
 
     /// The date that is this many days after 1970-01-01, or `None` outside the years of 32 bits.
+    #[must_use]
     pub const fn from_day_number(day: i64) -> Option<Self> {
         if day < FIRST_DAY || day > LAST_DAY {
             return None;
@@ -138,6 +145,7 @@ impl Date {
 
     /// The date this many days later, or earlier if they are negative; `None` outside the years of
     /// 32 bits.
+    #[must_use]
     pub const fn checked_add_days(self, days: i64) -> Option<Self> {
         let Some(day) = self.day_number().checked_add(days) else {
             return None;
@@ -146,11 +154,13 @@ impl Date {
     }
 
     /// How many days this date is after another one; negative if it is before it.
+    #[must_use]
     pub const fn days_since(self, other: Self) -> i64 {
         self.day_number() - other.day_number()
     }
 
     /// The last date of the month.
+    #[must_use]
     pub const fn last_of_month(self) -> Self {
         Date {
             year: self.year,
@@ -160,6 +170,7 @@ impl Date {
     }
 
     /// The week day, from Sunday = 0 to 6.
+    #[must_use]
     pub const fn week_day(self) -> u8 {
         week_day_of_day(self.day_number())
     }
@@ -168,6 +179,7 @@ impl Date {
 impl UtcDateTime {
     /// The date of a date time of UTC, or of a local time. Second 60 is one of the date at whose
     /// end it stands.
+    #[must_use]
     pub const fn date(&self) -> Date {
         Date::of(self)
     }
@@ -175,6 +187,7 @@ impl UtcDateTime {
 
 impl DateTime {
     /// The date that the date time's clock shows.
+    #[must_use]
     pub const fn date(&self) -> Date {
         Date::of_date_time(self)
     }

@@ -48,6 +48,7 @@ fn moment_of_utc(date_time: &UtcDateTime) -> Moment<'static> {
 
 impl<'a> Pattern<'a> {
     /// The date time as the pattern prints it.
+    #[must_use]
     pub const fn format(self, date_time: &DateTime) -> FormattedDateTime<'a> {
         FormattedDateTime {
             pattern: self,
@@ -58,6 +59,7 @@ impl<'a> Pattern<'a> {
 
 impl<'a> UtcPattern<'a> {
     /// The date time of UTC as the pattern prints it. The name of its time is UTC.
+    #[must_use]
     pub const fn format(self, date_time: &UtcDateTime) -> FormattedUtcDateTime<'a> {
         FormattedUtcDateTime {
             pattern: self.pattern(),

@@ -72,11 +72,13 @@ impl<'a> Pattern<'a> {
     }
 
     /// The pattern's text.
+    #[must_use]
     pub const fn as_str(&self) -> &'a str {
         self.text
     }
 
     /// The most bytes that it prints, whatever the date time: 128 at most.
+    #[must_use]
     pub const fn max_len(&self) -> usize {
         match measure(self.text.as_bytes()) {
             Ok(width) => width,
@@ -119,11 +121,13 @@ impl<'a> UtcPattern<'a> {
     };
 
     /// The pattern, of date times of UTC alone.
+    #[must_use]
     pub const fn new(pattern: Pattern<'a>) -> Self {
         UtcPattern { pattern }
     }
 
     /// The pattern, of date times of every zone.
+    #[must_use]
     pub const fn pattern(&self) -> Pattern<'a> {
         self.pattern
     }

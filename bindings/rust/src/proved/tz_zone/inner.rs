@@ -16,6 +16,7 @@ pub use crate::proved::tz_zone::timezone::files::{open_fault, read_to_end};
 pub use crate::proved::tz_zone::timezone::zone_data::{RuleSource, ZoneData};
 
 /// The zone's plain data.
+#[must_use]
 pub const fn plain<'a>(zone: &TimeZoneRef<'a>) -> ZoneData<'a> {
     zone.plain
 }

@@ -5,6 +5,7 @@ pub(crate) mod tz_file;
 pub(crate) mod tz_string;
 
 /// The bytes after a byte, if they begin with it.
+#[must_use]
 pub fn after_byte(text: &[u8], byte: u8) -> Option<&[u8]> {
     match text {
         [first, rest @ ..] if *first == byte => Some(rest),

@@ -15,6 +15,7 @@ pub struct Transition {
 
 impl Transition {
     /// The transition at this leap time to the type with this number.
+    #[must_use]
     pub const fn new(unix_leap_time: i64, local_time_type_index: usize) -> Self {
         Transition {
             unix_leap_time,
@@ -23,11 +24,13 @@ impl Transition {
     }
 
     /// The leap time: Unix time with the leap seconds so far counted in.
+    #[must_use]
     pub const fn unix_leap_time(&self) -> i64 {
         self.unix_leap_time
     }
 
     /// The number of the type in the zone's list.
+    #[must_use]
     pub const fn local_time_type_index(&self) -> usize {
         self.local_time_type_index
     }

@@ -218,61 +218,73 @@ impl DateTime {
     }
 
     /// The year.
+    #[must_use]
     pub const fn year(&self) -> i32 {
         self.fields.year
     }
 
     /// The month, from 1 to 12.
+    #[must_use]
     pub const fn month(&self) -> u8 {
         self.fields.month
     }
 
     /// The day of the month, from 1 to 31.
+    #[must_use]
     pub const fn month_day(&self) -> u8 {
         self.fields.month_day
     }
 
     /// Hours since midnight, from 0 to 23.
+    #[must_use]
     pub const fn hour(&self) -> u8 {
         self.fields.hour
     }
 
     /// Minutes since the hour, from 0 to 59.
+    #[must_use]
     pub const fn minute(&self) -> u8 {
         self.fields.minute
     }
 
     /// Seconds since the minute, from 0 to 60.
+    #[must_use]
     pub const fn second(&self) -> u8 {
         self.fields.second
     }
 
     /// Nanoseconds since the second, below 1000000000.
+    #[must_use]
     pub const fn nanoseconds(&self) -> u32 {
         self.fields.nanoseconds
     }
 
     /// The week day, from Sunday = 0 to 6.
+    #[must_use]
     pub const fn week_day(&self) -> u8 {
         self.fields.week_day()
     }
 
     /// Days since January 1st, from 0 to 365.
+    #[must_use]
     pub const fn year_day(&self) -> u16 {
         self.fields.year_day()
     }
 
     /// The local time type that shows these fields.
+    #[must_use]
     pub const fn local_time_type(&self) -> &LocalTimeType {
         &self.local_time_type
     }
 
     /// Seconds from 1970-01-01T00:00:00Z on.
+    #[must_use]
     pub const fn unix_time(&self) -> i64 {
         self.unix_time
     }
 
     /// Nanoseconds from 1970-01-01T00:00:00Z on.
+    #[must_use]
     pub const fn total_nanoseconds(&self) -> i128 {
         total_nanoseconds(self.unix_time, self.fields.nanoseconds)
     }
@@ -320,6 +332,7 @@ impl fmt::Display for DateTime {
 }
 
 /// The fields of a date time, which are valid.
+#[must_use]
 pub fn fields_of(date_time: &DateTime) -> &Fields {
     date_time.fields()
 }
@@ -360,6 +373,7 @@ pub struct FoundData {
 
 impl UtcData {
     /// The data of a date time.
+    #[must_use]
     pub const fn of(date_time: &UtcDateTime) -> Self {
         UtcData {
             fields: *date_time.fields(),
@@ -370,6 +384,7 @@ impl UtcData {
 
 impl DateTimeData {
     /// The data of a date time.
+    #[must_use]
     pub const fn of(date_time: &DateTime) -> Self {
         DateTimeData {
             fields: *date_time.fields(),

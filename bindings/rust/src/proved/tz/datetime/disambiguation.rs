@@ -112,6 +112,7 @@ impl<'a> Ends<'a> {
 
 impl<'a> Ends<'a> {
     /// The entries, if they are few.
+    #[must_use]
     pub fn few(&self) -> FewEntries<'a> {
         let Some(first) = self.first else {
             return FewEntries::Nothing;

@@ -45,12 +45,13 @@ impl FoundDateTimeKind {
 #[cfg(feature = "alloc")]
 #[derive(PartialEq)]
 pub struct FoundDateTimeList<A: Allocator + Copy = Global> {
-    pub(super) found: Vec<FoundDateTimeKind, A>,
+    pub(crate) found: Vec<FoundDateTimeKind, A>,
 }
 
 #[cfg(feature = "alloc")]
 impl<A: Allocator + Copy> FoundDateTimeList<A> {
     /// An empty list.
+    #[must_use]
     pub fn new_in(alloc: A) -> Self {
         FoundDateTimeList {
             found: Vec::new(alloc),
@@ -68,6 +69,7 @@ impl<A: Allocator + Copy> FoundDateTimeList<A> {
     }
 
     /// The date time, if exactly one was found and no jump, and otherwise `None`.
+    #[must_use]
     pub fn unique(&self) -> Option<DateTime> {
         match *self.found.as_slice() {
             [FoundDateTimeKind::Normal(date_time)] => Some(date_time),
@@ -76,16 +78,19 @@ impl<A: Allocator + Copy> FoundDateTimeList<A> {
     }
 
     /// The earliest date time; of a jump the side before it. `None` if nothing was found.
+    #[must_use]
     pub fn earliest(&self) -> Option<DateTime> {
         Some(*self.found.first()?.sides().0)
     }
 
     /// The latest date time; of a jump the side after it. `None` if nothing was found.
+    #[must_use]
     pub fn latest(&self) -> Option<DateTime> {
         Some(*self.found.last()?.sides().1)
     }
 
     /// What was found.
+    #[must_use]
     pub fn into_inner(self) -> Vec<FoundDateTimeKind, A> {
         self.found
     }
@@ -142,6 +147,7 @@ pub struct FoundDateTimeListRefMut<'a> {
 
 impl<'a> FoundDateTimeListRefMut<'a> {
     /// A list of these slots with nothing found: its count is 0, and the slots stay as they are.
+    #[must_use]
     pub const fn new(buf: &'a mut [Option<FoundDateTimeKind>]) -> Self {
         FoundDateTimeListRefMut { buf, count: 0 }
     }
@@ -157,22 +163,26 @@ impl<'a> FoundDateTimeListRefMut<'a> {
     }
 
     /// The slots that were written.
+    #[must_use]
     pub const fn data(&self) -> &[Option<FoundDateTimeKind>] {
         self.buf.split_at(self.written()).0
     }
 
     /// How many date times were found, whether there was a slot for each or not.
+    #[must_use]
     pub const fn count(&self) -> usize {
         self.count
     }
 
     /// Whether there was a slot for each date time.
+    #[must_use]
     pub const fn is_exhaustive(&self) -> bool {
         self.count <= self.buf.len()
     }
 
     /// The earliest date time that was written; of a jump the side before it. `None` if nothing was
     /// written.
+    #[must_use]
     pub const fn earliest(&self) -> Option<DateTime> {
         Some(
             *(match (match self.data().first() {
@@ -191,6 +201,7 @@ impl<'a> FoundDateTimeListRefMut<'a> {
 
     /// The latest date time that was written; of a jump the side after it. `None` if nothing was
     /// written.
+    #[must_use]
     pub const fn latest(&self) -> Option<DateTime> {
         Some(
             *(match (match self.data().last() {
@@ -209,6 +220,7 @@ impl<'a> FoundDateTimeListRefMut<'a> {
 
     /// The date time, if exactly one was found and no jump, and there was a slot for it, and
     /// otherwise `None`.
+    #[must_use]
     pub const fn unique(&self) -> Option<DateTime> {
         match *self.data() {
             [Some(FoundDateTimeKind::Normal(date_time))] if self.is_exhaustive() => Some(date_time),

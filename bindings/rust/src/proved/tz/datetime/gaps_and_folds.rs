@@ -164,6 +164,7 @@ fn window(reading: i64, least: i32, greatest: i32) -> (i64, i64) {
 
 /// The first and the last instant of a reading's window, by the least and the greatest offset of a
 /// zone.
+#[must_use]
 pub fn window_of(zone: &ZoneData<'_>, reading: i64) -> (i64, i64) {
     let (least, greatest) = zone.offsets();
     window(reading, least, greatest)
@@ -171,6 +172,7 @@ pub fn window_of(zone: &ZoneData<'_>, reading: i64) -> (i64, i64) {
 
 /// The types that the clock of a zone has in a window.
 #[inline(always)]
+#[must_use]
 pub const fn types_of_window<'a>(zone: &ZoneData<'a>, low: i64, high: i64) -> WindowTypes<'a> {
     let mut view = Uncounted::new(zone.transitions());
     window_types(&mut view, *zone, low, high)

@@ -168,41 +168,49 @@ impl UtcDateTime {
     }
 
     /// Seconds from [`UtcDateTime::UNIX_EPOCH`] on. Second 60 counts as the next minute's second 0.
+    #[must_use]
     pub const fn unix_time(&self) -> i64 {
         self.unix_time
     }
 
     /// The year.
+    #[must_use]
     pub const fn year(&self) -> i32 {
         self.fields.year
     }
 
     /// The month, from 1 to 12.
+    #[must_use]
     pub const fn month(&self) -> u8 {
         self.fields.month
     }
 
     /// The day of the month, from 1 to 31.
+    #[must_use]
     pub const fn month_day(&self) -> u8 {
         self.fields.month_day
     }
 
     /// Hours since midnight, from 0 to 23.
+    #[must_use]
     pub const fn hour(&self) -> u8 {
         self.fields.hour
     }
 
     /// Minutes since the hour, from 0 to 59.
+    #[must_use]
     pub const fn minute(&self) -> u8 {
         self.fields.minute
     }
 
     /// Seconds since the minute, from 0 to 60.
+    #[must_use]
     pub const fn second(&self) -> u8 {
         self.fields.second
     }
 
     /// Nanoseconds since the second, below 1000000000.
+    #[must_use]
     pub const fn nanoseconds(&self) -> u32 {
         self.fields.nanoseconds
     }
@@ -235,16 +243,19 @@ impl UtcDateTime {
     ///     Ok(None)
     /// }
     /// ```
+    #[must_use]
     pub const fn week_day(&self) -> u8 {
         self.fields.week_day()
     }
 
     /// Days since January 1st, from 0 to 365.
+    #[must_use]
     pub const fn year_day(&self) -> u16 {
         self.fields.year_day()
     }
 
     /// Nanoseconds from [`UtcDateTime::UNIX_EPOCH`] on.
+    #[must_use]
     pub const fn total_nanoseconds(&self) -> i128 {
         total_nanoseconds(self.unix_time(), self.fields.nanoseconds)
     }
@@ -295,6 +306,7 @@ impl UtcDateTime {
     ///     Ok(meetings)
     /// }
     /// ```
+    #[must_use]
     pub const fn checked_add(&self, duration: Duration) -> Option<Self> {
         let moved = time_after(self.unix_time(), self.fields.nanoseconds, duration);
         let (unix_time, nanoseconds) = match moved {
@@ -305,6 +317,7 @@ impl UtcDateTime {
     }
 
     /// The date time earlier by a duration, or `None` if that is before [`UtcDateTime::MIN`].
+    #[must_use]
     pub const fn checked_sub(&self, duration: Duration) -> Option<Self> {
         let moved = time_before(self.unix_time(), self.fields.nanoseconds, duration);
         let (unix_time, nanoseconds) = match moved {
@@ -324,9 +337,11 @@ impl UtcDateTime {
     }
 }
 
-/// The date time later by a duration. Rattle requires a proof that it is not past
-/// [`UtcDateTime::MAX`]; the Rust crate panics if it is. [`UtcDateTime::checked_add`] returns
-/// `None` then.
+/// The date time later by a duration.
+///
+/// # Panics
+///
+/// If it is past [`UtcDateTime::MAX`]. [`UtcDateTime::checked_add`] returns `None` then.
 impl Add<Duration> for UtcDateTime {
     type Output = UtcDateTime;
 
@@ -336,9 +351,11 @@ impl Add<Duration> for UtcDateTime {
     }
 }
 
-/// The date time earlier by a duration. Rattle requires a proof that it is not before
-/// [`UtcDateTime::MIN`]; the Rust crate panics if it is. [`UtcDateTime::checked_sub`] returns
-/// `None` then.
+/// The date time earlier by a duration.
+///
+/// # Panics
+///
+/// If it is before [`UtcDateTime::MIN`]. [`UtcDateTime::checked_sub`] returns `None` then.
 impl Sub<Duration> for UtcDateTime {
     type Output = UtcDateTime;
 
@@ -348,15 +365,22 @@ impl Sub<Duration> for UtcDateTime {
     }
 }
 
-/// Adds a duration, with the requirement of `+`: the sum is not past [`UtcDateTime::MAX`].
+/// Adds a duration.
+///
+/// # Panics
+///
+/// If the sum is past [`UtcDateTime::MAX`].
 impl AddAssign<Duration> for UtcDateTime {
     fn add_assign(&mut self, duration: Duration) {
         *self = *self + duration;
     }
 }
 
-/// Subtracts a duration, with the requirement of `-`: the difference is not before
-/// [`UtcDateTime::MIN`].
+/// Subtracts a duration.
+///
+/// # Panics
+///
+/// If the difference is before [`UtcDateTime::MIN`].
 impl SubAssign<Duration> for UtcDateTime {
     fn sub_assign(&mut self, duration: Duration) {
         *self = *self - duration;

@@ -22,6 +22,7 @@ impl Date {
     /// A month after January 31st is February 28th or 29th, and a month after that is March 28th or
     /// 29th. So that a series of dates does not stay there, add the months of each to the first
     /// date.
+    #[must_use]
     pub const fn checked_add_months(self, months: i32) -> Option<Self> {
         let number = 12 * moved_year(self.year) + self.month as u64 - 1;
         let later = number as i64 + months as i64;

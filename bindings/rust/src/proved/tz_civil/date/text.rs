@@ -21,7 +21,7 @@ fn line_of(date: Date) -> TextBuffer {
     line
 }
 
-/// Prints `YYYY-MM-DD`, with the year as [`UtcDateTime`](tz::UtcDateTime) prints it, whatever the
+/// Prints `YYYY-MM-DD`, with the year as [`UtcDateTime`](crate::UtcDateTime) prints it, whatever the
 /// format's width. (RFC 3339, section 5.6)
 impl fmt::Display for Date {
     fn fmt(&self, f: &mut fmt::Formatter<'_>) -> fmt::Result {

@@ -88,12 +88,14 @@ const fn day_of_week_date(date: WeekDate) -> Option<i64> {
 
 impl Date {
     /// The week date, or `None` if its year does not fit an `i32`.
+    #[must_use]
     pub const fn week_date(self) -> Option<WeekDate> {
         week_date_of_day(self.year, self.day_number())
     }
 
     /// The date with a week date, or `None` if there is none: the week's year has no such week, the
     /// week day is not in 1 to 7, or the date is outside the years of 32 bits.
+    #[must_use]
     pub const fn from_week_date(week_date: WeekDate) -> Option<Self> {
         let Some(day) = day_of_week_date(week_date) else {
             return None;

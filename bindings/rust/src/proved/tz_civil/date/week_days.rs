@@ -32,6 +32,7 @@ const fn weeks_after_first(n: i8, first: u8, last: u8) -> Option<u8> {
 impl Date {
     /// The first later date with a week day, from Sunday = 0 to 6: a week later if this date has
     /// it. `None` for another number, or outside the years of 32 bits.
+    #[must_use]
     pub const fn next_week_day(self, week_day: u8) -> Option<Self> {
         if week_day > 6 {
             return None;
@@ -43,6 +44,7 @@ impl Date {
     /// The n-th date of a month with a week day, from Sunday = 0 to 6: from the beginning for n
     /// from 1 to 5, and from the end for n from -1, the last one, to -5. `None` if the month has
     /// fewer of them, or if a number is out of range.
+    #[must_use]
     pub const fn nth_week_day(year: i32, month: u8, n: i8, week_day: u8) -> Option<Self> {
         if month < 1 || month > 12 || week_day > 6 {
             return None;

@@ -138,6 +138,7 @@ impl AlternateTime {
     /// Why parts in range make no rule: two years x and y and a distance k in years, such that the
     /// start of x comes after the end of x + k, and the start of y before the end of y + k. `None`
     /// if they make one, or are out of range.
+    #[must_use]
     pub const fn conflict(
         std: LocalTimeType,
         dst: LocalTimeType,
@@ -152,33 +153,39 @@ impl AlternateTime {
     }
 
     /// The type of standard time.
+    #[must_use]
     pub const fn std(&self) -> &LocalTimeType {
         self.plain.std()
     }
 
     /// The type of daylight saving time.
+    #[must_use]
     pub const fn dst(&self) -> &LocalTimeType {
         self.plain.dst()
     }
 
     /// The day on which daylight saving time starts.
+    #[must_use]
     pub const fn dst_start(&self) -> &RuleDay {
         &self.dst_start
     }
 
     /// When it starts on that day, in seconds from 00:00 of standard time, less than a week either
     /// way.
+    #[must_use]
     pub const fn dst_start_time(&self) -> i32 {
         self.plain.dst_start_time()
     }
 
     /// The day on which daylight saving time ends.
+    #[must_use]
     pub const fn dst_end(&self) -> &RuleDay {
         &self.dst_end
     }
 
     /// When it ends on that day, in seconds from 00:00 of daylight saving time, less than a week
     /// either way.
+    #[must_use]
     pub const fn dst_end_time(&self) -> i32 {
         self.plain.dst_end_time()
     }
@@ -276,6 +283,7 @@ impl AlternateData {
     }
 
     /// Why parts in range make no rule, as `AlternateTime::conflict` says it.
+    #[must_use]
     pub const fn conflict(
         std: LocalTimeType,
         dst: LocalTimeType,
@@ -302,6 +310,7 @@ impl AlternateData {
     }
 
     /// The rule whose bytes are all zero: UTC without a name all year.
+    #[must_use]
     pub const fn zeros() -> Self {
         let parts = Parts {
             std: LocalTimeType::utc(),
@@ -321,31 +330,37 @@ impl AlternateData {
     }
 
     /// The type of standard time.
+    #[must_use]
     pub const fn std(&self) -> &LocalTimeType {
         &self.parts.std
     }
 
     /// The type of daylight saving time.
+    #[must_use]
     pub const fn dst(&self) -> &LocalTimeType {
         &self.parts.dst
     }
 
     /// The day on which daylight saving time starts.
+    #[must_use]
     pub fn dst_start(&self) -> &DayData {
         &self.parts.dst_start
     }
 
     /// When it starts on that day, in seconds from 00:00 of standard time.
+    #[must_use]
     pub const fn dst_start_time(&self) -> i32 {
         self.parts.dst_start_time
     }
 
     /// The day on which daylight saving time ends.
+    #[must_use]
     pub fn dst_end(&self) -> &DayData {
         &self.parts.dst_end
     }
 
     /// When it ends on that day, in seconds from 00:00 of daylight saving time.
+    #[must_use]
     pub const fn dst_end_time(&self) -> i32 {
         self.parts.dst_end_time
     }

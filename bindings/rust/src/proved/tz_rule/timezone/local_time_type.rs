@@ -134,6 +134,7 @@ impl LocalTimeType {
     }
 
     /// The type of UTC, without a name.
+    #[must_use]
     pub const fn utc() -> Self {
         LocalTimeType {
             ut_offset: 0,
@@ -152,22 +153,26 @@ impl LocalTimeType {
     }
 
     /// Seconds that are added to UTC, never `i32::MIN`.
+    #[must_use]
     pub const fn ut_offset(&self) -> i32 {
         self.ut_offset
     }
 
     /// Whether this is daylight saving time.
+    #[must_use]
     pub const fn is_dst(&self) -> bool {
         self.is_dst
     }
 
     /// The name, empty if there is none.
+    #[must_use]
     pub const fn time_zone_designation(&self) -> &str {
         self.time_zone_designation.as_str()
     }
 
     /// Whether the other type has the same offset, daylight flag and name. This is what `==`
     /// returns, in a form that Rust can compute in a constant.
+    #[must_use]
     pub const fn is_same(&self, other: &LocalTimeType) -> bool {
         // The words compare the eight bytes of each name at once.
         self.ut_offset == other.ut_offset

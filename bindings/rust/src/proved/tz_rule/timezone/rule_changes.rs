@@ -209,6 +209,7 @@ impl AlternateData {
 }
 
 /// The first change of a rule after an instant.
+#[must_use]
 pub const fn change_after<'a>(rule: RuleRef<'a>, unix_time: i64) -> Option<RuleChange<'a>> {
     match rule {
         RuleRef::Fixed(_) => None,
@@ -217,6 +218,7 @@ pub const fn change_after<'a>(rule: RuleRef<'a>, unix_time: i64) -> Option<RuleC
 }
 
 /// The last change of a rule up to an instant.
+#[must_use]
 pub const fn change_up_to<'a>(rule: RuleRef<'a>, unix_time: i64) -> Option<RuleChange<'a>> {
     match rule {
         RuleRef::Fixed(_) => None,

@@ -46,6 +46,7 @@ impl Julian1WithoutLeap {
     }
 
     /// The number of the day.
+    #[must_use]
     pub const fn get(&self) -> u16 {
         self.0
     }
@@ -76,6 +77,7 @@ impl Julian0WithLeap {
     }
 
     /// The number of the day.
+    #[must_use]
     pub const fn get(&self) -> u16 {
         self.0
     }
@@ -122,16 +124,19 @@ impl MonthWeekDay {
     }
 
     /// The month, from 1 to 12.
+    #[must_use]
     pub const fn month(&self) -> u8 {
         self.month
     }
 
     /// The week of the month, from 1 to 5, where 5 means the last.
+    #[must_use]
     pub const fn week(&self) -> u8 {
         self.week
     }
 
     /// The week day, from Sunday = 0 to 6.
+    #[must_use]
     pub const fn week_day(&self) -> u8 {
         self.week_day
     }
@@ -210,6 +215,7 @@ pub struct DayData {
 
 impl DayData {
     /// The numbers of a rule day.
+    #[must_use]
     pub const fn of(day: &RuleDay) -> Self {
         match day {
             RuleDay::Julian0WithLeap(day) => DayData {
@@ -237,6 +243,7 @@ impl DayData {
     }
 
     /// The day whose bytes are all zero: January 1st.
+    #[must_use]
     pub const fn zeros() -> Self {
         DayData {
             number: 0,
@@ -248,6 +255,7 @@ impl DayData {
     }
 
     /// The rule day with these numbers.
+    #[must_use]
     pub const fn day(&self) -> RuleDay {
         match self.kind {
             0 => RuleDay::Julian0WithLeap(Julian0WithLeap(self.number)),

@@ -41,6 +41,7 @@ pub struct RuleData {
 
 impl RuleData {
     /// The data of a rule, or of none.
+    #[must_use]
     pub const fn of(rule: &Option<TransitionRule>) -> Self {
         match rule {
             None => RuleData {
@@ -73,6 +74,7 @@ pub enum RuleRef<'a> {
 
 impl<'a> RuleRef<'a> {
     /// Lends a rule.
+    #[must_use]
     pub const fn of(rule: &'a TransitionRule) -> RuleRef<'a> {
         match rule {
             TransitionRule::Fixed(local_time_type) => RuleRef::Fixed(local_time_type),
@@ -81,6 +83,7 @@ impl<'a> RuleRef<'a> {
     }
 
     /// The rule that is lent.
+    #[must_use]
     pub fn rule(self) -> TransitionRule {
         match self {
             RuleRef::Fixed(local_time_type) => TransitionRule::Fixed(*local_time_type),
@@ -90,11 +93,13 @@ impl<'a> RuleRef<'a> {
 }
 
 /// The instant at which daylight saving time starts in a year.
+#[must_use]
 pub fn start(rule: &AlternateTime, year: i32) -> i64 {
     rule.plain().switch_in(false, year)
 }
 
 /// The instant at which daylight saving time ends in a year.
+#[must_use]
 pub fn end(rule: &AlternateTime, year: i32) -> i64 {
     rule.plain().switch_in(true, year)
 }
@@ -102,6 +107,7 @@ pub fn end(rule: &AlternateTime, year: i32) -> i64 {
 /// The segment of the rule around an instant: the first and the last instant through which it has
 /// one type, or none.
 #[inline(always)]
+#[must_use]
 pub const fn segment_at<'a>(rule: RuleRef<'a>, unix_time: i64) -> RuleSegment<'a> {
     match rule {
         RuleRef::Fixed(local_time_type) => RuleSegment {

@@ -134,6 +134,7 @@ const fn following_from<'a>(
 /// The change at the transition after a position, and the position after it, if the one before the
 /// position takes effect at the instant. That one compare shows that the instant lies there, since
 /// times rise.
+#[must_use]
 pub const fn change_after_last<'a>(
     zone: &ZoneData<'a>,
     unix_time: i64,
@@ -151,6 +152,7 @@ pub const fn change_after_last<'a>(
 
 /// The first change of the clock after an instant, and the position after it.
 #[inline(always)]
+#[must_use]
 pub const fn find_following<'a>(
     zone: &ZoneData<'a>,
     unix_time: i64,
@@ -293,6 +295,7 @@ const fn change_at_last<'a>(
 
 /// The change at the transition before a position, and the position before it, if the one after the
 /// position takes effect at the instant. Then the instant a second earlier lies there.
+#[must_use]
 pub const fn change_before_next<'a>(
     zone: &ZoneData<'a>,
     unix_time: i64,
@@ -356,6 +359,7 @@ const fn preceding_from<'a>(
 
 /// The last change of the clock before an instant, and the position before it.
 #[inline(always)]
+#[must_use]
 pub const fn find_preceding<'a>(
     zone: &ZoneData<'a>,
     unix_time: i64,

@@ -34,16 +34,19 @@ impl<'a> Change<'a> {
     }
 
     /// The first instant with the new type, in Unix seconds.
+    #[must_use]
     pub const fn unix_time(&self) -> i64 {
         self.unix_time
     }
 
     /// The type at the instant before.
+    #[must_use]
     pub const fn before(&self) -> &'a LocalTimeType {
         self.before
     }
 
     /// The type from the instant on.
+    #[must_use]
     pub const fn after(&self) -> &'a LocalTimeType {
         self.after
     }
@@ -82,21 +85,25 @@ pub struct Segment<'a> {
 
 impl<'a> Segment<'a> {
     /// The first instant, in Unix seconds.
+    #[must_use]
     pub const fn from(&self) -> i64 {
         self.from
     }
 
     /// The last instant, in Unix seconds. The segment around the next one may begin before it.
+    #[must_use]
     pub const fn last(&self) -> i64 {
         self.last
     }
 
     /// The type that the clock has throughout the segment, or `None` if it has none.
+    #[must_use]
     pub const fn local_time_type(&self) -> Option<&'a LocalTimeType> {
         self.local_time_type
     }
 
     /// Whether an instant, in Unix seconds, is in the segment.
+    #[must_use]
     pub const fn contains(&self, unix_time: i64) -> bool {
         self.from <= unix_time && unix_time <= self.last
     }

@@ -14,6 +14,7 @@ pub struct LeapSecond {
 impl LeapSecond {
     /// The leap second at this leap time, from which on leap time is ahead of Unix time by this
     /// correction.
+    #[must_use]
     pub const fn new(unix_leap_time: i64, correction: i32) -> Self {
         LeapSecond {
             unix_leap_time,
@@ -22,11 +23,13 @@ impl LeapSecond {
     }
 
     /// The leap time at which the correction begins.
+    #[must_use]
     pub const fn unix_leap_time(&self) -> i64 {
         self.unix_leap_time
     }
 
     /// The seconds by which leap time is ahead of Unix time from then on.
+    #[must_use]
     pub const fn correction(&self) -> i32 {
         self.correction
     }

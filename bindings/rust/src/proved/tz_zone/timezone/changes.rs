@@ -33,6 +33,7 @@ impl<'a> TimeZoneRef<'a> {
     ///     DateTime::from_timespec_and_local(unix_time, 0, *local_time_type)
     /// }
     /// ```
+    #[must_use]
     pub const fn segment_at(&self, unix_time: i64) -> Segment<'a> {
         self.plain.segment_at(unix_time)
     }
@@ -67,6 +68,7 @@ impl<'a> TimeZoneRef<'a> {
     ///     Ok(Some((shown, seconds)))
     /// }
     /// ```
+    #[must_use]
     pub const fn following(&self, unix_time: i64) -> Option<Change<'a>> {
         self.plain.following(unix_time)
     }
@@ -107,6 +109,7 @@ impl<'a> TimeZoneRef<'a> {
     ///     Some(now.abs_diff(change.unix_time()))
     /// }
     /// ```
+    #[must_use]
     pub const fn preceding(&self, unix_time: i64) -> Option<Change<'a>> {
         self.plain.preceding(unix_time)
     }
@@ -162,6 +165,7 @@ impl<'a> TimeZoneRef<'a> {
     ///     Ok(changes)
     /// }
     /// ```
+    #[must_use]
     pub const fn changes_after(&self, unix_time: i64) -> ChangesAfter<'a> {
         ChangesAfter::new(*self, unix_time)
     }
@@ -185,6 +189,7 @@ impl<'a> TimeZoneRef<'a> {
     ///     None
     /// }
     /// ```
+    #[must_use]
     pub const fn changes_before(&self, unix_time: i64) -> ChangesBefore<'a> {
         ChangesBefore::new(*self, unix_time)
     }
@@ -193,26 +198,31 @@ impl<'a> TimeZoneRef<'a> {
 #[cfg(feature = "alloc")]
 impl<A: Allocator + Copy> TimeZone<A> {
     /// The segment around an instant, as [`TimeZoneRef::segment_at`] returns it.
+    #[must_use]
     pub fn segment_at(&self, unix_time: i64) -> Segment<'_> {
         self.as_ref().segment_at(unix_time)
     }
 
     /// The first change after an instant, as [`TimeZoneRef::following`] returns it.
+    #[must_use]
     pub fn following(&self, unix_time: i64) -> Option<Change<'_>> {
         self.as_ref().following(unix_time)
     }
 
     /// The last change before an instant, as [`TimeZoneRef::preceding`] returns it.
+    #[must_use]
     pub fn preceding(&self, unix_time: i64) -> Option<Change<'_>> {
         self.as_ref().preceding(unix_time)
     }
 
     /// The changes after an instant, as [`TimeZoneRef::changes_after`] returns them.
+    #[must_use]
     pub fn changes_after(&self, unix_time: i64) -> ChangesAfter<'_> {
         self.as_ref().changes_after(unix_time)
     }
 
     /// The changes before an instant, as [`TimeZoneRef::changes_before`] returns them.
+    #[must_use]
     pub fn changes_before(&self, unix_time: i64) -> ChangesBefore<'_> {
         self.as_ref().changes_before(unix_time)
     }

@@ -112,6 +112,7 @@ pub fn read_up_to<A: Allocator, I: Read>(
 /// Why a file could not be opened. Most paths of a search have no file, so the system's text of
 /// that error is not looked up.
 #[cfg(feature = "std")]
+#[must_use]
 pub fn open_fault(error: io::Error) -> ReadFault {
     if error.raw_os_error() == Some(NO_SUCH_FILE) {
         return ReadFault::Failed(anyhow!("No such file or directory (os error 2)"));

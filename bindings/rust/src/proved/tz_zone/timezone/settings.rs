@@ -70,6 +70,7 @@ pub struct TimeZoneSettings<'a, F> {
 #[cfg(feature = "alloc")]
 impl<'a, F: Fn(&str) -> Result<Vec<u8>, ReadFault>> TimeZoneSettings<'a, F> {
     /// The settings with these directories, and with this function that reads a file.
+    #[must_use]
     pub const fn new(directories: &'a [&'a str], reader: F) -> Self {
         TimeZoneSettings {
             directories,

@@ -142,6 +142,7 @@ impl<A: Allocator + Copy> TimeZone<A> {
     }
 
     /// The zone, borrowed.
+    #[must_use]
     pub fn as_ref(&self) -> TimeZoneRef<'_> {
         TimeZoneRef::from_valid_parts(
             &self.transitions,

@@ -88,6 +88,7 @@ impl<'a> ZoneData<'a> {
     }
 
     /// The zone with parts that are known to make one, and with its least and its greatest offset.
+    #[must_use]
     pub const fn from_valid_parts(
         transitions: &'a [Transition],
         local_time_types: &'a [LocalTimeType],
@@ -107,26 +108,31 @@ impl<'a> ZoneData<'a> {
     }
 
     /// The transitions, in order.
+    #[must_use]
     pub const fn transitions(&self) -> &'a [Transition] {
         self.transitions
     }
 
     /// The local time types, which the transitions name by their numbers.
+    #[must_use]
     pub const fn local_time_types(&self) -> &'a [LocalTimeType] {
         self.local_time_types
     }
 
     /// The leap seconds, in order.
+    #[must_use]
     pub const fn leap_seconds(&self) -> &'a [LeapSecond] {
         self.leap_seconds
     }
 
     /// The rule from the last transition on, lent.
+    #[must_use]
     pub const fn rule(&self) -> Option<RuleRef<'a>> {
         self.rule.lent()
     }
 
     /// The least and the greatest offset of the types and of the rule.
+    #[must_use]
     pub const fn offsets(&self) -> (i32, i32) {
         (self.least_offset, self.greatest_offset)
     }
@@ -139,12 +145,14 @@ impl<'a> ZoneData<'a> {
     }
 
     /// The segment around an instant, as `TimeZoneRef::segment_at` answers it.
+    #[must_use]
     pub const fn segment_at(&self, unix_time: i64) -> Segment<'a> {
         let mut view = Uncounted::new(self.transitions);
         clock::clock_segment_at(&mut view, self, unix_time)
     }
 
     /// The first change after an instant, as `TimeZoneRef::following` answers it.
+    #[must_use]
     pub const fn following(&self, unix_time: i64) -> Option<Change<'a>> {
         let (change, _) = match find_following(self, unix_time) {
             Some(value) => value,
@@ -154,6 +162,7 @@ impl<'a> ZoneData<'a> {
     }
 
     /// The last change before an instant, as `TimeZoneRef::preceding` answers it.
+    #[must_use]
     pub const fn preceding(&self, unix_time: i64) -> Option<Change<'a>> {
         let (change, _) = match find_preceding(self, unix_time) {
             Some(value) => value,

@@ -29,6 +29,7 @@ fn is_name_part(part: &[u8]) -> bool {
 ///
 /// A name has one part or several, with `/` between them. A part is one or more ASCII letters,
 /// digits, `.`, `_`, `+` and `-`, and neither `.` nor `..`.
+#[must_use]
 pub fn is_zone_name(name: &str) -> bool {
     name.as_bytes()
         .split(|byte| *byte == b'/')

@@ -105,6 +105,7 @@ impl<'a> TimeZoneRef<'a> {
     }
 
     /// The zone of UTC. Does not allocate.
+    #[must_use]
     pub const fn utc() -> TimeZoneRef<'static> {
         TimeZoneRef::from_valid_parts(
             &[],
@@ -117,27 +118,32 @@ impl<'a> TimeZoneRef<'a> {
     }
 
     /// The transitions, in order.
+    #[must_use]
     pub const fn transitions(&self) -> &'a [Transition] {
         self.plain.transitions
     }
 
     /// The local time types, which the transitions name by their numbers.
+    #[must_use]
     pub const fn local_time_types(&self) -> &'a [LocalTimeType] {
         self.plain.local_time_types
     }
 
     /// The leap seconds, in order.
+    #[must_use]
     pub const fn leap_seconds(&self) -> &'a [LeapSecond] {
         self.plain.leap_seconds
     }
 
     /// The leap time at which the leap-second table expires: that of a last record that repeats the
     /// correction before it. `None` if there is no such record.
+    #[must_use]
     pub fn leap_expiry(&self) -> Option<i64> {
         expiry(self.plain.leap_seconds)
     }
 
     /// The rule from the last transition on.
+    #[must_use]
     pub const fn extra_rule(&self) -> &'a Option<TransitionRule> {
         self.extra_rule
     }
