@@ -105,11 +105,8 @@ mod proved;
 #[doc(hidden)]
 #[allow(dead_code, missing_docs, unused_imports, unused_variables)]
 // Docs of what the crate does not have here name laws.
-#[allow(
-    clippy::all,
-    clippy::must_use_candidate,
-    rustdoc::broken_intra_doc_links
-)]
+#[allow(rustdoc::broken_intra_doc_links)]
+#[allow(clippy::all, clippy::must_use_candidate)]
 #[deny(clippy::incompatible_msrv)]
 pub mod proved;
 #[cfg(not(feature = "inner"))]

@@ -12,8 +12,6 @@ mod shim;
 mod streams;
 
 use proved::tz_query::query;
-#[cfg(feature = "zones")]
-use proved::tz_query::query::program::{fail, line_of};
 use std::ffi::OsString;
 use std::process::ExitCode;
 use std::{env, io};
@@ -34,19 +32,15 @@ fn answer_lines(arguments: &[&str]) -> u8 {
     let reader = |path: &str| read_file(&Machine, Global, path);
     let (mut input, mut out, mut err) = (Stream::input(), Stream::output(), io::stderr());
     #[cfg(feature = "zones")]
-    match arguments {
-        ["--help"] => return built_in::print_usage(&mut out, &mut err),
-        ["-z", name] => {
-            if let Some(zone) = built_in::zone_without_file(name, reader) {
-                return match query::run(Global, zone, &mut input, &mut out) {
-                    Ok(()) => 0,
-                    Err(fault) => fail(&mut err, line_of(fault)),
-                };
-            }
-        }
-        _ => {}
+    if let Some(status) = built_in::answer(arguments, reader, &mut input, &mut out, &mut err) {
+        return status;
     }
-    query::tool(Global, arguments, reader, &mut input, &mut out, &mut err)
+    let status = query::tool(Global, arguments, reader, &mut input, &mut out, &mut err);
+    #[cfg(feature = "zones")]
+    if let (["-z", text], 2) = (arguments, status) {
+        built_in::print_nearest(text, reader, &mut err);
+    }
+    status
 }
 
 fn main() -> ExitCode {

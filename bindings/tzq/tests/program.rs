@@ -227,7 +227,12 @@ fn bad_arguments_are_refused_before_input_is_read() {
         &["-o", "-2147483649"],
         #[cfg(not(feature = "zones"))]
         &["--help"],
+        #[cfg(not(feature = "zones"))]
+        &["--version"],
+        #[cfg(not(feature = "zones"))]
+        &["-l"],
         &["--help", "x"],
+        &["-l", "x"],
         &["-h"],
         &["-o=1"],
     ];
@@ -266,7 +271,7 @@ fn a_zone_that_is_refused_has_status_2() {
     let offset = format!("{refused}invalid local time type: invalid UTC offset\n");
     expect(&run(&["-o", "-2147483648"], b"T 0 0\n"), "", &offset, 2);
     let text = format!("{refused}invalid TZ string: missing DST start and end rules\n");
-    expect(&run(&["-z", "EET-2EEST"], b"T 0 0\n"), "", &text, 2);
+    expect(&run(&["-z", "<EET>-2<EEST>"], b"T 0 0\n"), "", &text, 2);
     let empty = format!("{refused}invalid TZ string: empty TZ string\n");
     expect(&run(&["-z", ""], b"T 0 0\n"), "", &empty, 2);
     let path = file("cut", &UTC[..UTC.len() - 1]);

@@ -124,6 +124,15 @@ fn refused(why: &str) -> String {
     format!("tzq: zone refused: invalid TZ string: {why}\n")
 }
 
+/// The line of the names that are nearest, if there are some.
+fn near(names: &str) -> String {
+    match names {
+        "" => String::new(),
+        _ if cfg!(not(feature = "zones")) => String::new(),
+        _ => format!("tzq: no zone has this name; near it: {names}\n"),
+    }
+}
+
 #[test]
 fn a_file_comes_before_a_built_in_zone() {
     let Some(root) = Root::of("files") else {
@@ -155,13 +164,13 @@ fn only_names_have_built_in_zones() {
     }
     let digits = "cannot parse integer from empty string";
     let others = [
-        "america/new_york",
-        "America",
-        "/America/New_York",
-        "America/New_York/",
+        ("america/new_york", "America/New_York"),
+        ("America", "America/Merida"),
+        ("/America/New_York", ""),
+        ("America/New_York/", ""),
     ];
-    for text in others {
-        root.expect(text, SUMMER, "", &refused(digits), 2);
+    for (text, names) in others {
+        root.expect(text, SUMMER, "", &(refused(digits) + &near(names)), 2);
     }
     root.expect("", SUMMER, "", &refused("empty TZ string"), 2);
 }
@@ -223,6 +232,63 @@ mod built_in {
             }
         }
         assert_eq!(both, ["GMT+0", "GMT-0", "GMT0"]);
+    }
+
+    /// What has the form of a name and is none is answered by names that are near it: by letters, by its last part, in any case.
+    #[test]
+    fn a_name_that_no_zone_has() {
+        let Some(root) = Root::of("near") else {
+            return;
+        };
+        let digits = refused("cannot parse integer from empty string");
+        for (text, names) in [
+            ("Europe/Pariss", "Europe/Paris"),
+            ("paris", "Europe/Paris"),
+            ("New_York", "America/New_York"),
+            ("America/Argentina/Ushuaya", "America/Argentina/Ushuaia"),
+            ("US", "Australia/NSW, EST, Etc/UCT"),
+        ] {
+            root.expect(text, SUMMER, "", &(digits.clone() + &near(names)), 2);
+        }
+        let rules = refused("missing DST start and end rules");
+        root.expect("EET-2EEST", "", "", &(rules + &near("EST5EDT")), 2);
+        // Neither of these is a name, and a file of this name is no file of a zone.
+        root.expect("New York", "", "", &digits, 2);
+        root.expect(&"x".repeat(65), "", "", &digits, 2);
+        root.put("usr/share/zoneinfo/Europe/Pariss", b"");
+        let cut = "tzq: zone refused: invalid TZ file: unexpected end of data\n";
+        root.expect("Europe/Pariss", "", "", cut, 2);
+    }
+
+    #[test]
+    fn names_and_versions() {
+        let run = |option| {
+            let output = runner::program().arg(option).output().unwrap();
+            assert_eq!((output.stderr, output.status.code()), (Vec::new(), Some(0)));
+            String::from_utf8(output.stdout).unwrap()
+        };
+        assert_eq!(run("-l").lines().collect::<Vec<_>>(), NAMES);
+        let release = env!("CARGO_PKG_VERSION");
+        let version = format!("tzq {release}, with version {VERSION} of the tz database\n");
+        assert_eq!(run("--version"), version);
+    }
+
+    /// What the usage shows is what the program prints.
+    #[test]
+    fn the_example_of_the_usage() {
+        let output = runner::program().arg("--help").output().unwrap();
+        let usage = String::from_utf8(output.stdout).unwrap();
+        let (_, example) = usage.split_once("  $ echo '").unwrap();
+        let (line, example) = example.split_once("' | tzq -z Europe/Paris\n").unwrap();
+        let wanted: String = example
+            .lines()
+            .take_while(|line| !line.is_empty())
+            .map(|line| format!("{}\n", line.trim()))
+            .collect();
+        let Some(root) = Root::of("usage") else {
+            return;
+        };
+        root.expect("Europe/Paris", &format!("{line}\n"), &wanted, "", 0);
     }
 
     #[test]
