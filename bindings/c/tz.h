@@ -488,7 +488,7 @@ tz_code tz_date_time_text(const tz_date_time *date_time, char *text, size_t text
    them, and with or without an offset: `2000-02-29T23:59:60.5+01:00`. The text is the whole, without white space at its ends. TZ_EXPECTED_... */
 tz_code tz_date_time_read(const char *text, size_t text_length, tz_parsed *out);
 
-/* What a code says, and its length: at most 128 bytes, and no zero follows them. TZ_UNKNOWN_CODE, TZ_BUFFER_LENGTH. */
+/* Writes what a code says, and its length: at most 128 bytes, and no zero follows them. TZ_UNKNOWN_CODE, TZ_BUFFER_LENGTH. */
 tz_code tz_error_text(tz_code code, char *text, size_t text_length, size_t *length);
 
 /* ---- Layout --------------------------------------------------------------------------------------------------------------------------- */

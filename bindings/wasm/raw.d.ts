@@ -305,8 +305,8 @@ export interface Functions {
    */
   tz_date_time_read(text: Pointer<'char'>, text_length: number, out: Pointer<'tz_parsed'>): Code;
   /**
-   * What a code says, and its length: at most 128 bytes, and no zero follows them. TZ_UNKNOWN_CODE,
-   * TZ_BUFFER_LENGTH.
+   * Writes what a code says, and its length: at most 128 bytes, and no zero follows them.
+   * TZ_UNKNOWN_CODE, TZ_BUFFER_LENGTH.
    */
   tz_error_text(code: Code, text: Pointer<'char'>, text_length: number, length: Pointer<'size_t'>): Code;
   /**
