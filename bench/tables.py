@@ -1,5 +1,5 @@
 #!/usr/bin/env python3
-"""Writes the tables of docs/BENCHMARKS.md, its pictures, and what README.md says of them, from bench/figures.json, which bench/peers/run makes.
+"""Writes the tables of docs/BENCHMARKS.md and its pictures from bench/figures.json, which bench/peers/run makes.
 
 usage: bench/tables.py
 
@@ -19,14 +19,13 @@ import rows
 
 TOP = pathlib.Path(__file__).resolve().parent.parent
 PAGE = TOP / 'docs' / 'BENCHMARKS.md'
-README = TOP / 'README.md'
 COLUMNS = 100
 THROUGH = ('through-C', 'through-Rust', 'Rust-default')
 OWN = ('tz', 'through-Rust', 'Rust-default')
 PEERS = ('tz-rs', 'glibc', 'Abseil', 'cctz', 'date', 'chrono-tz', 'Go', 'jiff')
 WIDTH, LEFT, BAR, HEAD, LONGEST = 900, 330, 11, 46, 4000
 COMPILERS = ('kit', 'rustc', 'g++')
-WORDS = ('none', 'one', 'two', 'three', 'four', 'five', 'six', 'seven', 'eight')
+WORDS = ('none', 'one', 'two', 'three', 'four', 'five', 'six', 'seven', 'eight', 'nine', 'ten')
 STAR = r'\*'
 COLOURS = ('#2563a8', '#c2c8d0', '#e0913a')
 
@@ -204,18 +203,18 @@ def peers_with(kept, called):
     return WORDS[sum(any(peer in row for row in found) for peer in PEERS)]
 
 
-def of_readme(kept):
-    """What README.md says of calls."""
+def of_calls(kept):
+    """What is to be known of calls."""
     called = ('DateTime::from_timespec', 'DateTime::find_n', 'TimeZoneRef::following')
     lookup, search, following = (span(kept, name) for name in called)
     others, with_changes = peers_with(kept, called[0]), peers_with(kept, called[2])
-    return (
+    return filled(
         f'In zones with transitions or a rule `{called[0]}` takes {lookup[0]} to {lookup[1]} '
         f'instructions, and the best of {others} other libraries {lookup[2]} to {lookup[3]} times '
         f'as many. `find_n`, a search that does not allocate, takes {search[0]} to {search[1]}, '
         f'and the best of them {search[2]} to {search[3]} times as many; `following` takes '
         f'{following[0]} to {following[1]}, and the best of {with_changes} {following[2]} to '
-        f'{following[3]} times as many'
+        f'{following[3]} times as many.'
     )
 
 
@@ -240,7 +239,7 @@ def of_sizes():
             crate = TOP / 'crates' / name
             sizes = [lines_of(crate.glob(found)) for found in ('src/**/*.rt', 'specs/**/*.antt', 'proofs/**/*.antt')]
             sizes.append(len(list(crate.glob('must-fail/*.edit'))))
-            if name.endswith(('_tests', '_samples', '_examples')) or name in ('tz_calls', 'tz_changes'):
+            if name.endswith(('_tests', '_samples', '_examples')) or name.startswith('tzq_') or name in ('tz_calls', 'tz_changes'):
                 tests += sizes[0]
             else:
                 shipped, count = [more + had for more, had in zip(sizes, shipped)], count + 1
@@ -273,27 +272,12 @@ def picture(title, kept, section):
     return '\n'.join([*out, '</svg>', ''])
 
 
-def put_into_readme(kept):
-    """Writes what README.md says of calls, between its marks, and fills the lines of that item."""
-    text = README.read_text()
-    begin, end = '<!-- calls -->', '<!-- end -->'
-    first, last = text.rindex('\n', 0, text.index(begin)) + 1, re.compile(r'\n(?=\n|- )').search(text, text.index(end)).start()
-    item = re.sub(f'(?s){begin}.*?{end}', lambda _: f'{begin}{of_readme(kept)}{end}', text[first:last])
-    # A mark is one word here, and none begins a line.
-    marks = {begin: '<!--calls-->', end: '<!--end-->'}
-    for mark, word in marks.items():
-        item = item.replace(mark, word)
-    item = filled(' '.join(item.split()), '  ')
-    for mark, word in marks.items():
-        item = item.replace(word, mark)
-    README.write_text(text[:first] + item + text[last:])
-
-
 def write():
-    """Writes the tables into the page, each from its mark to the next empty line, the pictures beside it, and README.md's item. Gives what is wrong."""
+    """Writes the tables into the page, each from its mark to the next empty line, and the pictures beside it. Gives what is wrong."""
     kept = figures.Figures(TOP / 'bench' / 'figures.json')
     reasons = Reasons()
     made = {
+        'short': of_calls(kept),
         'versions': of_versions(kept),
         'builds': of_builds(kept),
         'lines': of_instructions('lines', kept, (), PEERS[:-1], reasons),
@@ -308,7 +292,6 @@ def write():
     for name, text in made.items():
         page = re.sub(rf'(<!-- {name} -->).*?(?=\n\n|\n?\Z)', lambda found: f'{found[1]}\n{text}'.rstrip(), page, flags=re.DOTALL)
     PAGE.write_text(page)
-    put_into_readme(kept)
     (TOP / 'docs' / 'instructions.svg').write_text(picture('Instructions for a query line', kept, 'lines'))
     (TOP / 'docs' / 'calls.svg').write_text(picture('Instructions for a call', kept, 'calls'))
     return reasons.missing + above_goals(kept)
