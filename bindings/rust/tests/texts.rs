@@ -15,6 +15,20 @@ macro_rules! prints {
     ($($value:expr => $text:expr;)*) => { $(assert_eq!(format!("{:?}", $value), $text);)* };
 }
 
+/// `str::parse` reads what `parse` reads of its bytes.
+#[test]
+fn texts_are_parsed_as_their_bytes() {
+    for text in [
+        "2000-01-01T00:00:00Z",
+        "2000-01-01 01:00:00.5",
+        "2000-01-01",
+        "",
+    ] {
+        let read = text.parse::<tz::ParsedDateTime>();
+        assert_eq!(read, tz::ParsedDateTime::parse(text.as_bytes()), "{text}");
+    }
+}
+
 #[test]
 fn values_print_their_parts() {
     let zone = zone_of(NEW_YORK).unwrap();
