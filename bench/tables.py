@@ -133,6 +133,31 @@ def of_times(kept, reasons):
     return table(['row', *names, *PEERS, 'tz / best'], lines)
 
 
+# What people ask for, and the rows of times that answer it.
+ASKED = {
+    'the offset at an instant, 2015 to 2035': '`TimeZoneRef::find_local_time_type`, Paris, 2015 to 2035',
+    'an instant to fields, 2026': '`DateTime::from_timespec`, Paris, 2026',
+    'the same, 1902 to 2037': '`DateTime::from_timespec`, Paris, 1902 to 2037',
+    'the same, instants in order': '`DateTime::from_timespec`, Paris, sorted 2015 to 2035',
+    'the same, a zone without changes now': '`DateTime::from_timespec`, Kolkata, 2026',
+    'the same, a TZ string': '`DateTime::from_timespec`, TZ string, 2026',
+    'a local time to its instants, 2026': '`DateTime::find_n`, Paris, 2026',
+    'a local time, 1902 to 2037': '`DateTime::find_n`, Paris, 1902 to 2037',
+    'the same, near gaps and folds': '`DateTime::find_n`, at jumps, Paris',
+    'the same, 100,000 transitions': '`DateTime::find_n`, random, 100000 transitions',
+    'the same, into a list': '`DateTime::find`, random, Paris',
+    'print RFC 3339': '`Display` into a new string, Paris',
+}
+
+
+def of_asked(kept):
+    """Nanoseconds of the Rust crate and of the peers, in the rows that people ask for."""
+    found, columns = kept.rows('times of calls'), ('through-Rust', *PEERS)
+    lines = [[asked, *(f'{found[name][program]:.0f}' if program in found[name] else '–' for program in columns)]
+             for asked, name in ASKED.items()]
+    return table(['ns', 'tz', *PEERS], lines)
+
+
 def days_of(names, kept):
     """The first of the days on which these libraries' lines were counted, their calls were, and their times were taken."""
     made = [kept.rows('days').get(part, {}) for part in ('lines', 'calls', 'times')]
@@ -277,6 +302,7 @@ def write():
     kept = figures.Figures(TOP / 'bench' / 'figures.json')
     reasons = Reasons()
     made = {
+        'asked': of_asked(kept),
         'short': of_calls(kept),
         'versions': of_versions(kept),
         'builds': of_builds(kept),
