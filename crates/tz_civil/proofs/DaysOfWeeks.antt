@@ -1,5 +1,5 @@
 -- Week days of days that follow one another.
-use Rattle.std.proofs.Common.{◌≡◌, ℕ, ◌+◌, ◌-◌, ◌*◌, ◌/◌, ◌%◌, ◌<◌, ◌≤◌, refl, sym, arith, ℤ, pos, negsuc, ◌+ℤ◌, ◌-ℤ◌, ◌≤ℤ◌, ◌<ℤ◌, ap, ◌∙◌, lit<}
+use Rattle.std.proofs.Common.{◌≡◌, ℕ, ◌+◌, ◌-◌, ◌*◌, ◌/◌, ◌%◌, ◌<◌, ◌≤◌, refl, sym, arith, ℤ, pos, negsuc, ◌+ℤ◌, ◌-ℤ◌, ◌≤ℤ◌, ◌<ℤ◌, ap, ◌∙◌, lit<, ◌⊎◌, inl, inr}
 use Rattle.std.proofs.lemmas.Int.{ints, int_rem_euclid_is}
 use Rattle.tz_base.specs.Days.{day_number, week_day_of}
 use Rattle.tz_base.proofs.DaysOfYears.{day_number-is}
@@ -52,24 +52,34 @@ week_day-lt day w e =
     let same = same_week_day day w _ e here in
     omega (arith, same)
 
--- the next day with a week day: how much later it is, and that none is between
-pub next_day : (day : ℤ) (w week_day : ℕ) → week_day_of day ≡ pos w → week_day < 7
-    → (week_day_of (day +ℤ pos ((week_day + 6 - w) % 7 + 1)) ≡ pos week_day)
-    × ((later : ℤ) → day <ℤ later → week_day_of later ≡ pos week_day
-    → (day +ℤ pos ((week_day + 6 - w) % 7 + 1)) ≤ℤ later)
-next_day day w week_day e below =
-    let bound = week_day-lt day w e in
-    let there = week_day_from day (day +ℤ pos ((week_day + 6 - w) % 7 + 1)) w ((week_day + 6 - w) % 7 + 1) 0 e
-    (omega (arith, ints)) in
-    (there ∙ ap pos (omega (arith, bound, below)), first bound)
+-- which of two days comes first
+pub compare : (a b : ℤ) → (a ≤ℤ b) ⊎ (b <ℤ a)
+compare a b = by_gap (b -ℤ a) refl
   where
-    first : w < 7 → (later : ℤ) → day <ℤ later → week_day_of later ≡ pos week_day
-        → (day +ℤ pos ((week_day + 6 - w) % 7 + 1)) ≤ℤ later
-    first bound later after shown =
-        let gap = up_to day later (omega (arith, ints, after)) in
-        let there = week_day_from day later w gap.0 0 e (omega (arith, ints, gap.1)) in
-        let same = same_week_day later _ _ there shown in
-        omega (arith, ints, same, gap.1, after, bound, below)
+    by_gap : (d : ℤ) → b -ℤ a ≡ d → (a ≤ℤ b) ⊎ (b <ℤ a)
+    by_gap (pos n) e = inl (omega (arith, ints, e))
+    by_gap (negsuc n) e = inr (omega (arith, ints, e))
+
+-- the first day after another with a week day, which is at most a week later
+pub first_after : (day next : ℤ) (week_day : ℕ) → week_day_of next ≡ pos week_day → next ≤ℤ (day +ℤ pos 7)
+    → (later : ℤ) → day <ℤ later → week_day_of later ≡ pos week_day → next ≤ℤ later
+first_after day next week_day shown soon later after shown' = elim (compare next later) [
+  | inl up ↦ up
+  | inr down ↦
+      let gap = up_to later next (omega (arith, ints, down)) in
+      let there = week_day_from later next week_day gap.0 0 shown' (omega (arith, ints, gap.1)) in
+      let same = same_week_day next _ _ there shown in
+      omega (arith, ints, same, gap.1, after, soon, down, week_day-lt next week_day shown)
+]
+
+-- days after a day, by the days of whole weeks to a Sunday
+pub day_until : (day late : ℤ) (weeks m week_day : ℕ) → late +ℤ pos 4 ≡ pos (7 * weeks) → week_day < 7
+    → pos m ≡ late +ℤ pos week_day -ℤ day → week_day_of (day +ℤ pos (m % 7)) ≡ pos week_day
+unfolding week_day_of
+day_until day late weeks m week_day sunday below is =
+    int_rem_euclid_is (day +ℤ pos (m % 7) +ℤ pos 4) (pos 7) 7 (m / 7) (7 * weeks + week_day) (lit< tt) refl
+    (omega (arith, ints, sunday, is))
+    ∙ ap pos (omega (arith, below))
 
 -- weeks later in a month, and that each day with the week day is weeks after the first one
 pub weeks_later : (year : ℤ) (month first weeks w : ℕ) → week_day_of (day_number year month first) ≡ pos w

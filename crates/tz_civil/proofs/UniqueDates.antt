@@ -10,7 +10,7 @@ use Rattle.tz_civil.specs.WeekDates.{IsWeekDate}
 use Rattle.tz_civil.specs.WeekDays.{IsNextWeekDay, IsNthWeekDay, IsNth}
 use Rattle.tz_civil.proofs.CivilDates.{one_date, same_parts}
 use Rattle.tz_civil.proofs.DaysOfWeeks.{week_day_from, same_week_day, week_day-lt}
-use Rattle.tz_civil.proofs.YearsOfWeeks.{compare}
+use Rattle.tz_civil.proofs.DaysOfWeeks.{compare}
 
 pub days_later_unique : (d e e' : Date) (days : ℤ) → IsDate e → IsDate e' → IsDaysLater d days e → IsDaysLater d days e'
     → e ≡ e'

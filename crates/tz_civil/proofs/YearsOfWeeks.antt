@@ -1,18 +1,11 @@
 -- The years of week dates.
-use Rattle.std.proofs.Common.{◌≡◌, ℕ, ◌+◌, ◌-◌, ◌*◌, ◌/◌, ◌%◌, ◌<◌, ◌≤◌, arith, ℤ, pos, negsuc, ◌+ℤ◌, ◌-ℤ◌, ◌≤ℤ◌, ◌<ℤ◌, true, false, cond, refl, sym, ap, ◌∙◌, ◌⊎◌, inl, inr}
+use Rattle.std.proofs.Common.{◌≡◌, ℕ, ◌+◌, ◌-◌, ◌*◌, ◌/◌, ◌%◌, ◌<◌, ◌≤◌, arith, ℤ, pos, ◌+ℤ◌, ◌-ℤ◌, ◌≤ℤ◌, ◌<ℤ◌, true, false, cond, sym, ap, ◌∙◌, inl, inr}
 use Rattle.std.proofs.lemmas.Int.{ints}
 use Rattle.tz_base.specs.Days.{is_leap, year_length, first_day, week_day_of}
 use Rattle.tz_base.proofs.DaysOfYears.{first_day-next, year_length-is}
 use Rattle.tz_base.proofs.DateOrder.{first_day-mono}
 use Rattle.tz_civil.specs.WeekDates.{IsWeekDate}
-use Rattle.tz_civil.proofs.DaysOfWeeks.{same_week_day, week_day_from, up_to}
-
-pub compare : (a b : ℤ) → (a ≤ℤ b) ⊎ (b <ℤ a)
-compare a b = by_gap (b -ℤ a) refl
-  where
-    by_gap : (d : ℤ) → b -ℤ a ≡ d → (a ≤ℤ b) ⊎ (b <ℤ a)
-    by_gap (pos n) e = inl (omega (arith, ints, e))
-    by_gap (negsuc n) e = inr (omega (arith, ints, e))
+use Rattle.tz_civil.proofs.DaysOfWeeks.{compare, same_week_day, week_day_from, up_to}
 
 -- a week whose Thursday is before a year is of an earlier one
 pub too_early : (day year other : ℤ) (w week w' : ℕ) → (1 ≤ w) × (w ≤ 7) → week_day_of day ≡ pos (w % 7)
@@ -55,29 +48,29 @@ year_length-range year =
       | false ↦ (omega arith, omega arith)
     ])
 
--- where the Thursday of a week is, by the week day m of January 1st, from Monday = 1
-pub thursday_of_week : (day year : ℤ) (m week w : ℕ) → week_day_of (first_day year) ≡ pos (m % 7)
-    → (1 ≤ m) × (m ≤ 7) → (h : IsWeekDate day year week w) → h.days ≡ (11 - m) % 7 + 7 * (week - 1)
-thursday_of_week day year m week w first range h =
-    let there = week_day_from (first_day year) day (m % 7) (h.days + w) 4 first
+-- where the Thursday of a week is, by the days from January 1st to the year's first Thursday
+pub thursday_of_week : (day year : ℤ) (first week w : ℕ) → week_day_of (first_day year +ℤ pos first) ≡ pos 4
+    → first < 7 → (h : IsWeekDate day year week w) → h.days ≡ first + 7 * (week - 1)
+thursday_of_week day year first week w thursday few h =
+    let there = week_day_from (first_day year +ℤ pos first) day 4 (h.days + w) (first + 4) thursday
     (omega (arith, ints, h.thursday)) in
     let same = same_week_day day _ _ there h.shown in
-    omega (arith, same, h.week_is, h.week_day_is, range)
+    omega (arith, same, h.week_is, h.week_day_is, few)
 
 -- the day of a week date
-pub day_has_week_date : (day year : ℤ) (m week w : ℕ) → week_day_of (first_day year) ≡ pos (m % 7)
-    → (1 ≤ m) × (m ≤ 7) → 1 ≤ week → (1 ≤ w) × (w ≤ 7) → (11 - m) % 7 + 7 * (week - 1) < year_length year
-    → day ≡ first_day year +ℤ pos ((11 - m) % 7 + 7 * (week - 1)) +ℤ pos w -ℤ pos 4 → IsWeekDate day year week w
-day_has_week_date day year m week w first range low week_day within is =
-    let there = week_day_from (first_day year) day (m % 7) ((11 - m) % 7 + 7 * (week - 1) + w) 4 first
+pub day_has_week_date : (day year : ℤ) (first week w : ℕ) → week_day_of (first_day year +ℤ pos first) ≡ pos 4
+    → first < 7 → 1 ≤ week → (1 ≤ w) × (w ≤ 7) → first + 7 * (week - 1) < year_length year
+    → day ≡ first_day year +ℤ pos (first + 7 * (week - 1)) +ℤ pos w -ℤ pos 4 → IsWeekDate day year week w
+day_has_week_date day year first week w thursday few low week_day within is =
+    let there = week_day_from (first_day year +ℤ pos first) day 4 (first + 7 * (week - 1) + w) (first + 4) thursday
     (omega (arith, ints, is)) in
     record {
       week_day_is = week_day;
-      shown = there ∙ ap pos (omega (arith, range));
-      days = (11 - m) % 7 + 7 * (week - 1);
+      shown = there ∙ ap pos (omega arith);
+      days = first + 7 * (week - 1);
       thursday = omega (arith, ints, is);
       in_year = within;
-      week_is = omega (arith, low);
+      week_is = omega (arith, low, few);
     }
 
 -- the week date of a day whose Thursday is in the year

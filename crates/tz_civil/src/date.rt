@@ -2,6 +2,7 @@
 
 ghost use Rattle.tz_civil.specs.Dates.{IsDate};
 
+mod days;
 mod months;
 mod text;
 mod week_dates;
@@ -196,6 +197,9 @@ impl Date {
         ensures some { IfSome result (IsDaysLater self days) }
         ensures none { IfNone result ((e : Date) → IsDate e → ¬ IsDaysLater self days e) }
     {
+        if 0 <= days && days <= 28 {
+            return self.add_up_to_28_days(days as u8);
+        }
         let Some(day) = self.day_number().checked_add(days) else {
             return None;
         };

@@ -1,12 +1,28 @@
 //! The next date with a week day, and the n-th of a month.
 
-ghost use Rattle.std.specs.Prelude.{◌≡◌, ◌+◌, ◌-◌, ◌*◌, ◌/◌, ◌%◌, ◌<◌, ◌≤◌, ℕ, pos, ◌+ℤ◌, IfSome, IfNone};
+ghost use Rattle.std.specs.Prelude.{◌≡◌, ◌+◌, ◌-◌, ◌*◌, ◌/◌, ◌%◌, ◌<◌, ◌≤◌, ℕ, pos, negsuc, ◌+ℤ◌, ◌≤ℤ◌, IfSome, IfNone};
 ghost use Rattle.tz_base.specs.Days.{week_day_of, day_number};
 ghost use Rattle.tz_base.specs.Fields.{IsMonth};
 ghost use Rattle.tz_civil.specs.WeekDays.{IsNth};
 
 use super::Date;
-use tz_base::calendar::{days_in_month, days_since_unix_epoch, week_day_of_day};
+use tz_base::calendar::{days_in_month, days_since_unix_epoch};
+
+/// A Sunday past the years of 32 bits, by the number of its day.
+const LATE_SUNDAY: i64 = 784_351_577_005;
+
+/// How many days after a day the first one with a week day is, if the day itself can be it.
+///
+/// One remainder, of a number that is not negative, stands for the week day of the day and the
+/// days between the two.
+pub(super) const fn days_until(week_day: u8, day: i64) -> u8
+    requires week_day { week_day < 7 }
+    requires day { (negsuc 784353015832 ≤ℤ day) × (day ≤ℤ pos 784351577001) }
+    ensures value { week_day_of (day +ℤ pos result) ≡ pos week_day }
+    ensures bound { result < 7 }
+{
+    ((LATE_SUNDAY + week_day as i64 - day) as u64 % 7) as u8
+}
 
 /// The first day of a month that has a week day.
 const fn first_with_week_day(year: i32, month: u8, week_day: u8) -> u8
@@ -15,8 +31,7 @@ const fn first_with_week_day(year: i32, month: u8, week_day: u8) -> u8
     ensures bound { (1 ≤ result) × (result ≤ 7) }
     ensures value { week_day_of (day_number year month result) ≡ pos week_day }
 {
-    let first = week_day_of_day(days_since_unix_epoch(year, month, 1));
-    (week_day + 7 - first) % 7 + 1
+    days_until(week_day, days_since_unix_epoch(year, month, 1)) + 1
 }
 
 /// How many weeks the n-th day with a week day is after the first one, by the first and the last
@@ -58,8 +73,8 @@ impl Date {
         if week_day > 6 {
             return None;
         }
-        let days = (week_day + 6 - self.week_day()) % 7 + 1;
-        self.checked_add_days(days as i64)
+        let days = days_until(week_day, self.day_number() + 1) + 1;
+        self.add_up_to_28_days(days)
     }
 
     /// The n-th date of a month with a week day, from Sunday = 0 to 6: from the beginning for n
@@ -75,6 +90,14 @@ impl Date {
             return None;
         }
         let first = first_with_week_day(year, month, week_day);
+        // Each month has four of them.
+        if n >= 1 && n <= 4 {
+            return Some(Date {
+                year,
+                month,
+                month_day: first + 7 * (n - 1) as u8,
+            });
+        }
         let last = days_in_month(year, month);
         let Some(weeks) = weeks_after_first(n, first, last) else {
             return None;

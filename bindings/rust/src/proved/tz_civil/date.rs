@@ -1,6 +1,7 @@
 // Generated from crates/tz_civil/src/date.rt by bindings/erase: its contracts are cut. Change that file instead.
 //! Dates: their parts, their numbers, and days later.
 
+mod days;
 mod months;
 mod text;
 mod week_dates;
@@ -147,6 +148,9 @@ impl Date {
     /// 32 bits.
     #[must_use]
     pub const fn checked_add_days(self, days: i64) -> Option<Self> {
+        if 0 <= days && days <= 28 {
+            return self.add_up_to_28_days(days as u8);
+        }
         let Some(day) = self.day_number().checked_add(days) else {
             return None;
         };

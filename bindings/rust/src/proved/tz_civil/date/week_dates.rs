@@ -2,6 +2,7 @@
 //! Week dates of ISO 8601, both ways.
 
 use super::Date;
+use super::week_days::days_until;
 use crate::proved::tz_base::calendar::{first_day_of_year, is_leap_year, week_day_of_day};
 
 /// A week date, as 2025-W01-3: the year in which the week's Thursday lies, the week and the week
@@ -17,6 +18,9 @@ pub struct WeekDate {
     /// The week day, from Monday = 1 to Sunday = 7.
     pub week_day: u8,
 }
+
+/// The week day in whose year a week lies.
+const THURSDAY: u8 = 4;
 
 /// The week day from Monday = 1.
 const fn week_day_from_monday(day: i64) -> u8 {
@@ -78,9 +82,9 @@ const fn day_of_week_date(date: WeekDate) -> Option<i64> {
         return None;
     }
     let first = first_day_of_year(date.year);
-    let first_thursday = (11 - week_day_from_monday(first)) % 7;
-    let days = first_thursday as u16 + 7 * (date.week as u16 - 1);
-    if days >= days_of_year(date.year) {
+    let days = days_until(THURSDAY, first) as u16 + 7 * (date.week as u16 - 1);
+    // The years without a week 53 are those in which its Thursday is past the end.
+    if date.week == 53 && days >= days_of_year(date.year) {
         return None;
     }
     Some(first + days as i64 + date.week_day as i64 - 4)

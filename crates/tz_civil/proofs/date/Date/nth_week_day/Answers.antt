@@ -1,6 +1,6 @@
 -- Each day of the month with the week day is weeks after the first one.
-use Rattle.std.proofs.Common.{◌≡◌, ℕ, ◌+◌, ◌-◌, ◌*◌, ◌/◌, arith, refl, subst}
-use Rattle.std.proofs.lemmas.Int.{to_z-of_z}
+use Rattle.std.proofs.Common.{◌≡◌, ℕ, ◌+◌, ◌-◌, ◌*◌, ◌/◌, arith, rules, inl, refl, subst}
+use Rattle.std.proofs.lemmas.Int.{ints, to_z-of_z}
 use mir.Syntax.{w8, w32}
 use Rattle.tz_base.proofs.CivilReadings.{month_length-ge, month_length-le}
 use Rattle.tz_civil.specs.Steps.{last_day_of}
@@ -17,6 +17,48 @@ returns-then-month-lt1-clause-none c = λ month_day h.
       | then-month-lt1-via-else-month-lt1+else-month-gt12+then-week_day-gt6 w ↦
           omega (arith, week_day-lt _ c.args.week_day h.week_day_is, w.if-week_day-gt6)
     ]
+
+pub invariant_of-result : goal.invariant_of-result
+invariant_of-result c =
+    record {
+      year_is = search rules;
+      day_is = record {
+        month_is = (omega (arith, c.if-month-lt1.false), omega (arith, c.if-month-gt12.false));
+        month_day_is = (
+          omega (arith, c.first_with_week_day-first.ensures.bound),
+          omega (
+            arith,
+            ints,
+            month_length-ge,
+            c.first_with_week_day-first.ensures.bound,
+            c.if-n-ge1.true,
+            c.if-n-le4.true,
+          ),
+        );
+      };
+    }
+
+pub returns-then-n-le4-clause-some : goal.returns-then-n-le4-clause-some
+returns-then-n-le4-clause-some c =
+    let year = c.args.year in
+    let same = to_z-of_z w32 year c.ranges.year in
+    let first = c.first_with_week_day-first.result in
+    let bound = c.first_with_week_day-first.ensures.bound in
+    let shown = rw same at c.first_with_week_day-first.ensures.value in (
+      same,
+      refl,
+      record {
+        day_is = record {
+          month_is = (omega (arith, c.if-month-lt1.false), omega (arith, c.if-month-gt12.false));
+          month_day_is = (
+            omega (arith, bound),
+            omega (arith, ints, month_length-ge, bound, c.if-n-ge1.true, c.if-n-le4.true),
+          );
+        };
+        week_day_is = weeks_later year c.args.month first _ c.args.week_day shown;
+        nth = inl (omega (arith, ints, bound, c.if-n-ge1.true, c.if-n-le4.true));
+      },
+    )
 
 pub weeks_after_first-requires : goal.weeks_after_first-requires
 weeks_after_first-requires c =

@@ -1,0 +1,53 @@
+//! Dates a few days later, by the lengths of months.
+
+ghost use Rattle.std.specs.Prelude.{◌≤◌};
+
+use super::Date;
+use tz_base::calendar::days_in_month;
+
+impl Date {
+    ghost use Rattle.std.specs.Prelude.{pos, IfSome, IfNone};
+    ghost use Rattle.tz_civil.specs.Dates.{Date, IsDate};
+    ghost use Rattle.tz_civil.specs.Steps.{IsDaysLater};
+
+    /// The date up to four weeks later, which is of this month or the next one.
+    pub(super) const fn add_up_to_28_days(self, days: u8) -> Option<Self>
+        requires { days ≤ 28 }
+        ensures some { IfSome result (IsDaysLater self (pos days)) }
+        ensures none { IfNone result ((e : Date) → IsDate e → ¬ IsDaysLater self (pos days) e) }
+    {
+        let month_day = self.month_day + days;
+        // Each month has 28 days.
+        if month_day <= 28 {
+            return Some(Date {
+                year: self.year,
+                month: self.month,
+                month_day,
+            });
+        }
+        let last = days_in_month(self.year, self.month);
+        if month_day <= last {
+            return Some(Date {
+                year: self.year,
+                month: self.month,
+                month_day,
+            });
+        }
+        let month_day = month_day - last;
+        if self.month < 12 {
+            return Some(Date {
+                year: self.year,
+                month: self.month + 1,
+                month_day,
+            });
+        }
+        let Some(year) = self.year.checked_add(1) else {
+            return None;
+        };
+        Some(Date {
+            year,
+            month: 1,
+            month_day,
+        })
+    }
+}
