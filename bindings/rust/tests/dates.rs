@@ -318,3 +318,51 @@ fn each_day_of_a_cycle_has_its_date_and_its_week_date() {
         before = Some((date, week_date));
     }
 }
+
+#[test]
+fn printed_dates_are_read_and_other_texts_are_not() {
+    for number in (-800_000..800_000).step_by(37) {
+        let date = Date::from_day_number(number).unwrap();
+        assert_eq!(date.to_string().parse(), Ok(date));
+    }
+    for date in [Date::MIN, Date::MAX, date(0, 1, 1), date(-1, 12, 31)] {
+        assert_eq!(Date::parse(date.to_string().as_bytes()), Ok(date));
+    }
+    for (text, read) in [
+        ("0033-01-02", date(33, 1, 2)),
+        ("-0-01-01", date(0, 1, 1)),
+        ("00002024-02-29", date(2024, 2, 29)),
+    ] {
+        assert_eq!(text.parse(), Ok(read), "{text}");
+    }
+    for (text, message) in [
+        ("", "expected a year of four digits or more at byte 0"),
+        (
+            "033-01-01",
+            "expected a year of four digits or more at byte 0",
+        ),
+        (
+            "+2024-01-01",
+            "expected a year of four digits or more at byte 0",
+        ),
+        (
+            "2147483648-01-01",
+            "expected a year of four digits or more at byte 0",
+        ),
+        ("2024", "expected `-` at byte 4"),
+        ("2024-1-01", "expected a month from 01 to 12 at byte 5"),
+        ("2024-13-01", "expected a month from 01 to 12 at byte 5"),
+        ("2023-02-29", "expected a day of the month at byte 8"),
+        ("2024-02-2", "expected a day of the month at byte 8"),
+        ("2024-02-29 ", "expected an hour from 00 to 23 at byte 11"),
+        ("2024-02-291", "expected the end at byte 10"),
+        ("2024-02-29T00:00:00Z", "expected the end at byte 20"),
+    ] {
+        let error = text.parse::<Date>().unwrap_err();
+        assert_eq!(error.to_string(), message, "{text}");
+    }
+    let long = format!("{}1-01-01", "0".repeat(94));
+    assert_eq!(long[1..].parse(), Ok(date(1, 1, 1)));
+    let error = long.parse::<Date>().unwrap_err();
+    assert_eq!(error.to_string(), "expected the end at byte 100");
+}

@@ -1,3 +1,4 @@
+pub mod DatesRead
 pub mod DaysOfMonths
 pub mod CivilDates
 pub mod DaysOfWeeks

@@ -1,4 +1,5 @@
 pub mod Dates
+pub mod DateTexts
 pub mod Steps
 pub mod WeekDays
 pub mod WeekDates

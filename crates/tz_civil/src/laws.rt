@@ -4,11 +4,14 @@
 //! Each function does nothing; its contract is the law, stated like the contracts of
 //! [`Date`](crate::Date) and [`start_of_day`](crate::start_of_day).
 
-ghost use Rattle.std.specs.Prelude.{◌≡◌, ℕ, ℤ, pos, ◌-ℤ◌};
+ghost use Rattle.std.specs.Prelude.{◌≡◌, ℕ, ℤ, pos, ◌-ℤ◌, List};
 ghost use Rattle.tz_base.specs.declared.error.TzError.{TzError};
 ghost use Rattle.tz_zone.specs.Table.{Zone};
 ghost use Rattle.tz.specs.DateTimes.{DateTime};
-ghost use Rattle.tz_civil.specs.Dates.{Date, IsDate, date_of, number_of};
+ghost use Rattle.tz.specs.PrintedText.{date_text};
+ghost use Rattle.tz.specs.declared.parse.ParseDateTimeError.{ParseDateTimeError};
+ghost use Rattle.tz_civil.specs.DateTexts.{IsDateText, IsDateTextFault};
+ghost use Rattle.tz_civil.specs.Dates.{Date, IsDate, date_of, midnight_of, number_of};
 ghost use Rattle.tz_civil.specs.DayStarts.{IsSkippedDay, IsStartFault, IsStartOfDay, ShowsDay, StartsDay};
 ghost use Rattle.tz_civil.specs.Steps.{IsDaysLater, IsMonthsLater};
 ghost use Rattle.tz_civil.specs.WeekDates.{IsWeekDate};
@@ -23,6 +26,15 @@ pub fn later_dates_are_unique()
     ensures months { (d e e' : Date) (months : ℤ) → IsMonthsLater d months e
         → IsMonthsLater d months e'
         → e ≡ e' }
+{}
+
+/// [`Date::parse`](crate::Date::parse) reads each printed date as itself, and has one result for a
+/// text: one date, or an error.
+pub fn printed_dates_are_read()
+    ensures read { (d : Date) → IsDate d → IsDateText (date_text (midnight_of d)) d }
+    ensures one { (text : List ℕ) (d e : Date) → IsDateText text d → IsDateText text e → d ≡ e }
+    ensures either { (text : List ℕ) (d : Date) (e : ParseDateTimeError) → IsDateText text d
+        → ¬ IsDateTextFault text e }
 {}
 
 /// A month has one n-th day with a week day, and a date one next date with it.

@@ -1,12 +1,14 @@
-//! How dates are printed.
+//! How dates are printed, and read back.
 
-ghost use Rattle.std.specs.Prelude.{◌≡◌, ◌+◌, ◌<◌, ◌≤◌, ◌++◌, ◌∷◌, length};
+ghost use Rattle.std.specs.Prelude.{◌≡◌, ◌+◌, ◌<◌, ◌≤◌, ◌++◌, ◌∷◌, length, take};
 ghost use Rattle.tz.specs.PrintedText.{date_text, two_digits};
+ghost use Rattle.tz_civil.specs.DateTexts.{midnight_text, part_of_date};
 ghost use Rattle.tz_civil.specs.Dates.{midnight_of};
 
 use super::Date;
 use std::fmt;
 use tz::inner::TextBuffer;
+use tz::{DateTimePart, ParseDateTimeError, ParsedDateTime};
 
 /// Appends a hyphen, and a number below 100 as two digits.
 #[tactic(auto, unfolding(tz::specs::PrintedText::two_digits))]
@@ -45,5 +47,65 @@ impl fmt::Display for Date {
 
     fn fmt<W: fmt::Write>(&self, f: &mut fmt::Formatter<W>) -> fmt::Result {
         f.write_str(line_of(*self).as_str())
+    }
+}
+
+/// How many bytes of a text are read.
+const LONGEST: usize = 100;
+
+/// The time of midnight, which makes a date time of a date.
+static MIDNIGHT: [u8; 20] = *b"T00:00:00.000000000Z";
+
+/// A text with a midnight after it, and zeros.
+fn with_midnight(text: &[u8]) -> [u8; 120]
+    requires { length text.now ≤ 100 }
+    ensures { take (length text.now + 20) result ≡ text.now ++ midnight_text }
+{
+    let end = text.len();
+    let mut line = [0; 120];
+    line[..end].copy_from_slice(text);
+    line[end..end + 20].copy_from_slice(&MIDNIGHT);
+    line
+}
+
+/// The part that is missing in a date, in whose text the end stands for a separator.
+fn part_of_date(part: DateTimePart) -> DateTimePart
+    ensures { result ≡ part_of_date part }
+{
+    match part {
+        DateTimePart::Separator => DateTimePart::End,
+        other => other,
+    }
+}
+
+impl Date {
+    ghost use Rattle.std.specs.Prelude.{IfOk, IfErr};
+    ghost use Rattle.tz_civil.specs.DateTexts.{IsDateText, IsDateTextFault};
+
+    /// Reads a date in the form of RFC 3339, with years as `Display` prints them and
+    /// [`ParsedDateTime::parse`] reads them. Texts of more than 100 bytes are refused.
+    ///
+    /// # Errors
+    ///
+    /// [`ParseDateTimeError`] with the first part that the text does not have, and its position. After
+    /// a separator that can be a part of a time.
+    pub fn parse(text: &[u8]) -> Result<Self, ParseDateTimeError>
+        ensures ok { IfOk result (IsDateText text.now) }
+        ensures err { IfErr result (IsDateTextFault text.now) }
+    {
+        if text.len() > LONGEST {
+            return Err(ParseDateTimeError {
+                expected: DateTimePart::End,
+                position: LONGEST,
+            });
+        }
+        let line = with_midnight(text);
+        match ParsedDateTime::parse(&line[..text.len() + 20]) {
+            Ok(parsed) => Ok(Date::of(&parsed.local())),
+            Err(missing) => Err(ParseDateTimeError {
+                expected: part_of_date(missing.expected),
+                position: missing.position,
+            }),
+        }
     }
 }
