@@ -54,7 +54,8 @@
 //! 1000 with fewer digits, and that it has conversions of locales, flags and widths.
 
 pub use crate::proved::tz_format::{
-    FormattedDateTime, FormattedUtcDateTime, Pattern, PatternError, UtcPattern,
+    FormattedDateTime, FormattedUtcDateTime, LenientDateTime, LenientDateTimeError, Pattern,
+    PatternError, UtcPattern,
 };
 use crate::{DateTime, UtcDateTime};
 

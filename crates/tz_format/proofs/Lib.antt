@@ -6,3 +6,4 @@ pub mod Printed
 pub mod Measured
 pub mod UnixTimes
 pub mod Designations
+pub mod Whole

@@ -6,3 +6,4 @@ pub mod Names
 pub mod Texts
 pub mod Patterns
 pub mod DateTimes
+pub mod Lenient

@@ -4,6 +4,7 @@
 pub mod constants;
 mod conversion;
 mod formatted;
+mod lenient;
 mod line;
 mod moment;
 mod pattern;
@@ -11,4 +12,5 @@ mod print;
 mod weeks;
 
 pub use crate::formatted::{FormattedDateTime, FormattedUtcDateTime};
+pub use crate::lenient::{LenientDateTime, LenientDateTimeError};
 pub use crate::pattern::{Pattern, PatternError, UtcPattern};

@@ -3,6 +3,7 @@
 
 mod conversion;
 mod formatted;
+mod lenient;
 mod line;
 mod moment;
 mod pattern;
@@ -10,4 +11,5 @@ mod print;
 mod weeks;
 
 pub use crate::proved::tz_format::formatted::{FormattedDateTime, FormattedUtcDateTime};
+pub use crate::proved::tz_format::lenient::{LenientDateTime, LenientDateTimeError};
 pub use crate::proved::tz_format::pattern::{Pattern, PatternError, UtcPattern};
