@@ -55,7 +55,7 @@
 
 pub use crate::proved::tz_format::{
     FormattedDateTime, FormattedUtcDateTime, LenientDateTime, LenientDateTimeError, Pattern,
-    PatternError, UtcPattern,
+    PatternError, ReadDateTime, ReadPatternError, UtcPattern,
 };
 use crate::{DateTime, UtcDateTime};
 

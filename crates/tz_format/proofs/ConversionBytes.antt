@@ -116,7 +116,7 @@ unfolding all_ascii
 half_day_ascii hour = either_ascii (nat_lt hour 12) _ _ (text_ascii (codes "AM") refl) (text_ascii (codes "PM") refl)
 
 -- a day of the week is one of seven
-week_day_below : (f : Fields) → week_day f < 7
+pub week_day_below : (f : Fields) → week_day f < 7
 unfolding week_day_of
 week_day_below f = rem_below_seven (day_of f +ℤ pos 4)
   where

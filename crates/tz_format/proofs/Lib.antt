@@ -7,3 +7,6 @@ pub mod Measured
 pub mod UnixTimes
 pub mod Designations
 pub mod Whole
+pub mod Fronts
+pub mod Guessed
+pub mod Moments

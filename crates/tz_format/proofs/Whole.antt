@@ -4,7 +4,7 @@ use Rattle.std.proofs.Math.Seq.{take-length}
 use Rattle.std.proofs.lemmas.List.{take_min, drop_min, length-drop}
 use Rattle.tz_format.specs.Lenient.{whole_seconds, whole_from}
 
-all_after : (n : ℕ) (bytes : List ℕ) → take (length bytes - n) (drop n bytes) ≡ drop n bytes
+pub all_after : (n : ℕ) (bytes : List ℕ) → take (length bytes - n) (drop n bytes) ≡ drop n bytes
 all_after n bytes = rw (sym (length-drop n bytes)) (take-length (drop n bytes))
 
 pub whole_cut : (local : List ℕ) (separator end : ℕ) → end ≡ min (separator + 6) (length local)

@@ -7,3 +7,4 @@ pub mod Texts
 pub mod Patterns
 pub mod DateTimes
 pub mod Lenient
+pub mod Readings

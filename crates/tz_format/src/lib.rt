@@ -9,8 +9,10 @@ mod line;
 mod moment;
 mod pattern;
 mod print;
+mod read;
 mod weeks;
 
 pub use crate::formatted::{FormattedDateTime, FormattedUtcDateTime};
 pub use crate::lenient::{LenientDateTime, LenientDateTimeError};
 pub use crate::pattern::{Pattern, PatternError, UtcPattern};
+pub use crate::read::{ReadDateTime, ReadPatternError};

@@ -8,8 +8,10 @@ mod line;
 mod moment;
 mod pattern;
 mod print;
+mod read;
 mod weeks;
 
 pub use crate::proved::tz_format::formatted::{FormattedDateTime, FormattedUtcDateTime};
 pub use crate::proved::tz_format::lenient::{LenientDateTime, LenientDateTimeError};
 pub use crate::proved::tz_format::pattern::{Pattern, PatternError, UtcPattern};
+pub use crate::proved::tz_format::read::{ReadDateTime, ReadPatternError};

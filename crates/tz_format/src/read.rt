@@ -1,0 +1,356 @@
+//! Date times read by patterns: a guess in one pass, which is printed again and compared.
+
+ghost use Rattle.std.specs.Prelude.{◌≡◌, ◌+◌, ◌*◌, ◌/◌, ◌%◌, ◌<◌, ◌≤◌, ◌∷◌, ◌++◌, ◌||◌, [], length, drop};
+ghost use Rattle.std.specs.Prelude.{ℕ, ℤ, pos, List, slice_index, true, false, Some, None, IfOk, IfErr, if◌then◌else◌};
+ghost use Rattle.std.specs.Prelude.{IfSome, IfNone, MatchBool, get_or, ◌==◌, unsigned_abs};
+ghost use Rattle.tz_format.specs.Names.{month_name};
+ghost use Rattle.tz_format.specs.Patterns.{items_of, first_unknown, text_of};
+ghost use Rattle.tz_format.specs.Readings.{read_width, value, part_of, are_read, are_shown};
+ghost use Rattle.tz_format.specs.Readings.{digit, pair, month_of, offset_read, value_read};
+ghost use Rattle.tz_format.specs.Readings.{IsPlain, IsReading, IsReadAs, IsReadablePattern};
+ghost use Rattle.tz_format.specs.Readings.{IsReadFault, IsGuess, AreParts};
+ghost use Rattle.tz_format.specs.Shown.{Shown, IsShown, shown_of};
+ghost use Rattle.tz_format.specs.Texts.{conversion_text};
+
+use crate::conversion::{Conversion, conversion_at};
+use crate::line::Line;
+use crate::moment::Moment;
+use crate::pattern::Pattern;
+use crate::print::push_pattern;
+use thiserror::Error;
+use tz::UtcDateTime;
+use tz_base::fields::Fields;
+
+/// Why a text is not read by a pattern.
+#[derive(Clone, Copy, Debug, PartialEq, Eq, Error)]
+pub enum ReadPatternError {
+    /// The pattern has a conversion that is not read.
+    #[error("the pattern has a conversion that is not read")]
+    NotReadable,
+    /// The pattern prints the text of no date time that is read.
+    #[error("the pattern prints no such text")]
+    Mismatch,
+}
+
+/// How many bytes a conversion has that is read, or 0 if it is not.
+#[tactic(auto, unfolding(crate::specs::Readings::read_width))]
+fn read_width(conversion: Conversion) -> usize
+    ensures { result ≡ read_width conversion }
+{
+    match conversion {
+        Conversion::Year | Conversion::PointMilliseconds => 4,
+        Conversion::Month
+        | Conversion::MonthDay
+        | Conversion::Hour
+        | Conversion::Minute
+        | Conversion::Second => 2,
+        Conversion::ShortMonthName | Conversion::ShortWeekDayName => 3,
+        Conversion::Offset => 5,
+        Conversion::OffsetWithColon => 6,
+        Conversion::LineFeed | Conversion::Tab | Conversion::Percent => 1,
+        _ => 0,
+    }
+}
+
+/// The part that a conversion shows, or 8 if it shows none.
+#[tactic(auto, unfolding(crate::specs::Readings::part_of))]
+fn part_of(conversion: Conversion) -> usize
+    ensures value { result ≡ part_of conversion }
+    ensures bound { result ≤ 8 }
+{
+    match conversion {
+        Conversion::Year => 0,
+        Conversion::Month | Conversion::ShortMonthName => 1,
+        Conversion::MonthDay => 2,
+        Conversion::Hour => 3,
+        Conversion::Minute => 4,
+        Conversion::Second => 5,
+        Conversion::PointMilliseconds => 6,
+        Conversion::Offset | Conversion::OffsetWithColon => 7,
+        _ => 8,
+    }
+}
+
+/// The bytes after the first ones.
+#[tactic(auto, using(crate::proofs::Whole::all_after, std::proofs::lemmas::List::drop_all))]
+fn skip(text: &[u8], count: usize) -> &[u8]
+    ensures { result.now ≡ drop count text.now }
+{
+    if count < text.len() {
+        &text[count..]
+    } else {
+        &[]
+    }
+}
+
+/// The byte at a position, or NUL past the end.
+fn byte_at(text: &[u8], position: usize) -> u8
+    ensures { result ≡ slice_index text.now position }
+{
+    if position < text.len() {
+        text[position]
+    } else {
+        0
+    }
+}
+
+/// The number of the digit at a position.
+fn digit_at(text: &[u8], position: usize) -> u32
+    ensures value { result ≡ digit text.now position }
+    ensures bound { result ≤ 207 }
+{
+    u32::from(byte_at(text, position).saturating_sub(b'0'))
+}
+
+/// The number of two digits from a position on.
+fn pair_at(text: &[u8], position: usize) -> u32
+    requires { position < 100 }
+    ensures value { result ≡ pair text.now position }
+    ensures bound { result ≤ 2277 }
+{
+    10 * digit_at(text, position) + digit_at(text, position + 1)
+}
+
+/// The month whose name begins with these letters, by those that differ.
+#[tactic(auto, unfolding(crate::specs::Readings::month_of))]
+fn month_of(first: u8, second: u8, third: u8) -> u8
+    ensures { result ≡ month_of first second third }
+{
+    match first {
+        b'J' => {
+            if second == b'a' {
+                1
+            } else if third == b'n' {
+                6
+            } else {
+                7
+            }
+        }
+        b'F' => 2,
+        b'M' => { if third == b'r' { 3 } else { 5 } }
+        b'A' => { if second == b'p' { 4 } else { 8 } }
+        b'S' => 9,
+        b'O' => 10,
+        b'N' => 11,
+        _ => 12,
+    }
+}
+
+/// The offset from its sign, its hours, and its minutes from a position on.
+#[tactic(auto, unfolding(crate::specs::Readings::offset_read))]
+fn offset_at(text: &[u8], minutes: usize) -> i32
+    requires { minutes < 100 }
+    ensures { result ≡ offset_read text.now minutes }
+{
+    let size = (60 * (60 * pair_at(text, 1) + pair_at(text, minutes))) as i32;
+    if byte_at(text, 0) == b'-' {
+        -size
+    } else {
+        size
+    }
+}
+
+/// The value of the part that a conversion shows, if the text begins with what it prints.
+#[tactic(auto, unfolding(crate::specs::Readings::value_read))]
+fn value_at(conversion: Conversion, text: &[u8]) -> i32
+    ensures { result ≡ value_read conversion text.now }
+{
+    match conversion {
+        Conversion::Year => (100 * pair_at(text, 0) + pair_at(text, 2)) as i32,
+        Conversion::ShortMonthName => i32::from(month_of(
+            byte_at(text, 0),
+            byte_at(text, 1),
+            byte_at(text, 2),
+        )),
+        Conversion::PointMilliseconds => (100 * digit_at(text, 1) + pair_at(text, 2)) as i32,
+        Conversion::Offset => offset_at(text, 3),
+        Conversion::OffsetWithColon => offset_at(text, 4),
+        _ => pair_at(text, 0) as i32,
+    }
+}
+
+/// What is read of a pattern and a text: the values of the parts, of which the last is that of no
+/// part, and whether the pattern shows an offset.
+#[derive(Clone, Copy)]
+struct Guess {
+    values: [i32; 9],
+    is_offset_shown: bool,
+}
+
+/// Whether the offset or the part is shown.
+fn shows_offset(is_offset_shown: bool, part: usize) -> bool
+    ensures { result ≡ (is_offset_shown || (part == 7)) }
+{
+    is_offset_shown || part == 7
+}
+
+/// What a text shows, if the pattern prints it; `None` if the pattern is not read.
+fn read_parts(pattern: &[u8], text: &[u8]) -> Option<Guess>
+    requires { first_unknown (items_of pattern.now) ≡ None }
+    ensures some { IfSome result (λ g. IsGuess pattern.now text.now g.values g.is_offset_shown) }
+    ensures none { IfNone result (are_read (items_of pattern.now) ≡ false) }
+{
+    let mut values = [0; 9];
+    let mut is_offset_shown = false;
+    let mut left = text;
+    let mut position = 0;
+    while position < pattern.len() {
+        let byte = pattern[position];
+        position += 1;
+        if byte == b'%' {
+            let (conversion, spelled) = conversion_at(pattern, position)?;
+            let width = read_width(conversion);
+            if width == 0 {
+                return None;
+            }
+            let part = part_of(conversion);
+            values[part] = value_at(conversion, left);
+            is_offset_shown = shows_offset(is_offset_shown, part);
+            left = skip(left, width);
+            position += spelled;
+        } else {
+            left = skip(left, 1);
+        }
+    }
+    Some(Guess {
+        values,
+        is_offset_shown,
+    })
+}
+
+/// The value as a number below a limit.
+fn number_below(value: i32, limit: u32) -> Option<u32>
+    ensures some { IfSome result (λ n. (value ≡ pos n) × (n < limit)) }
+    ensures none { IfNone result ((n : ℕ) → n < limit → value ≡ pos n → ⊥) }
+{
+    let number = u32::try_from(value).ok()?;
+    if number < limit { Some(number) } else { None }
+}
+
+/// The value as a byte.
+fn byte_of(value: i32) -> Option<u8>
+    ensures some { IfSome result (λ n. value ≡ pos n) }
+    ensures none { IfNone result ((n : ℕ) → n < 256 → value ≡ pos n → ⊥) }
+{
+    u8::try_from(value).ok()
+}
+
+/// Whether patterns read the offset: whole minutes below 100 hours.
+fn is_read_offset(ut_offset: i32) -> bool
+    ensures { MatchBool result ((m : ℕ) × (m < 6000) × (unsigned_abs ut_offset ≡ 60 * m))
+        ((m : ℕ) → m < 6000 → unsigned_abs ut_offset ≡ 60 * m → ⊥) }
+{
+    let size = ut_offset.unsigned_abs();
+    size < 360_000 && size % 60 == 0
+}
+
+/// The local time with these parts, and what patterns print of it.
+fn moment_with(values: &[i32; 9]) -> Option<(UtcDateTime, Moment<'static>)>
+    ensures some { IfSome result (λ m. IsPlain (shown_of m.1) × AreParts values.now (shown_of m.1)
+        × (m.0 ≡ (shown_of m.1).fields)) }
+    ensures none { IfNone result ((s : Shown) → IsPlain s → AreParts values.now s → ⊥) }
+{
+    let ut_offset = values[7];
+    if !is_read_offset(ut_offset) {
+        return None;
+    }
+    let year = values[0];
+    let _ = number_below(year, 10_000)?;
+    let month = byte_of(values[1])?;
+    let month_day = byte_of(values[2])?;
+    let hour = byte_of(values[3])?;
+    let minute = byte_of(values[4])?;
+    let second = byte_of(values[5])?;
+    let nanoseconds = 1_000_000 * number_below(values[6], 1000)?;
+    let fields = Fields::new(year, month, month_day, hour, minute, second, nanoseconds);
+    match UtcDateTime::new(year, month, month_day, hour, minute, second, nanoseconds) {
+        Ok(local) => Some((
+            local,
+            Moment {
+                fields,
+                ut_offset,
+                designation: "",
+                unix_time: 0,
+            },
+        )),
+        Err(_) => None,
+    }
+}
+
+/// The offset, if it is shown.
+fn offset_if(is_shown: bool, moment: &Moment<'_>) -> Option<i32>
+    ensures { result ≡ (if is_shown then Some moment.now.ut_offset else None) }
+{
+    if is_shown {
+        Some(moment.ut_offset)
+    } else {
+        None
+    }
+}
+
+/// Whether the pattern prints the text.
+fn is_printed(pattern: &Pattern<'_>, moment: &Moment<'_>, text: &[u8]) -> bool
+    requires { IsShown (shown_of moment.now) }
+    ensures { MatchBool result (text.now ≡ text_of pattern.now.text.now (shown_of moment.now))
+        (text.now ≡ text_of pattern.now.text.now (shown_of moment.now) → ⊥) }
+{
+    let mut line = Line::new();
+    push_pattern(&mut line, pattern.as_str(), moment);
+    line.as_bytes() == text
+}
+
+/// The local time of a text that a pattern prints, and the offset if the pattern shows one.
+#[derive(Clone, Copy, Debug, PartialEq, Eq)]
+pub struct ReadDateTime {
+    local: UtcDateTime,
+    ut_offset: Option<i32>,
+}
+
+impl ReadDateTime {
+    /// The local time. What the pattern does not show is zero.
+    pub const fn local(&self) -> UtcDateTime
+        ensures { result ≡ self.now.local }
+    {
+        self.local
+    }
+
+    /// The offset from UTC in seconds, or `None` if the pattern shows none.
+    pub const fn ut_offset(&self) -> Option<i32>
+        ensures { result ≡ self.now.ut_offset }
+    {
+        self.ut_offset
+    }
+}
+
+impl Pattern<'_> {
+    /// Reads a text that the pattern prints: of the years from 0 to 9999, whole milliseconds, and
+    /// offsets of whole minutes below 100 hours. A text is read in one way only, and a day of the
+    /// week must be that of the date.
+    ///
+    /// # Errors
+    ///
+    /// [`ReadPatternError::NotReadable`] if the pattern has another conversion than `%Y`, `%m`,
+    /// `%b`, `%h`, `%d`, `%H`, `%M`, `%S`, `%.3f`, `%a`, `%z`, `%:z`, `%n`, `%t` and `%%`, or else
+    /// [`ReadPatternError::Mismatch`] if it prints the text of no such date time.
+    pub fn read(&self, text: &[u8]) -> Result<ReadDateTime, ReadPatternError>
+        ensures ok { IfOk result (λ d. (s : Shown)
+            × IsReadAs self.now.text.now text.now d.local d.ut_offset s) }
+        ensures once { IfOk result (λ d. (s : Shown) → IsReading self.now.text.now text.now s
+            → IsReadAs self.now.text.now text.now d.local d.ut_offset s) }
+        ensures err { IfErr result (IsReadFault self.now.text.now text.now) }
+    {
+        let Some(guess) = read_parts(self.as_str().as_bytes(), text) else {
+            return Err(ReadPatternError::NotReadable);
+        };
+        let Some(found) = moment_with(&guess.values) else {
+            return Err(ReadPatternError::Mismatch);
+        };
+        if !is_printed(self, &found.1, text) {
+            return Err(ReadPatternError::Mismatch);
+        }
+        Ok(ReadDateTime {
+            local: found.0,
+            ut_offset: offset_if(guess.is_offset_shown, &found.1),
+        })
+    }
+}
