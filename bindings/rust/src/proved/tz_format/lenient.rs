@@ -141,12 +141,14 @@ impl<'a> LenientDateTime<'a> {
     }
 
     /// The local time and the offset, if the text has one.
+    #[must_use]
     pub const fn date_time(&self) -> ParsedDateTime {
         self.date_time
     }
 
     /// The name of the time zone as it stands in the text, in letters, digits and `+-./_`, or
     /// `None` if there is none. No zone need have it.
+    #[must_use]
     pub fn zone_name(&self) -> Option<&'a [u8]> {
         if self.zone_name.is_empty() {
             None
@@ -157,6 +159,7 @@ impl<'a> LenientDateTime<'a> {
 
     /// Whether the text has no offset or that of the local time type, as the one that a zone has at
     /// this local time: an offset and a zone in one text may disagree.
+    #[must_use]
     pub fn agrees_with(&self, local_time_type: &LocalTimeType) -> bool {
         match self.date_time.ut_offset() {
             Some(ut_offset) => ut_offset == local_time_type.ut_offset(),

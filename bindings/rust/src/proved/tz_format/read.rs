@@ -254,11 +254,13 @@ pub struct ReadDateTime {
 
 impl ReadDateTime {
     /// The local time. What the pattern does not show is zero.
+    #[must_use]
     pub const fn local(&self) -> UtcDateTime {
         self.local
     }
 
     /// The offset from UTC in seconds, or `None` if the pattern shows none.
+    #[must_use]
     pub const fn ut_offset(&self) -> Option<i32> {
         self.ut_offset
     }
