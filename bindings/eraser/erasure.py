@@ -78,7 +78,6 @@ PACKAGES = (
         ),
         by_hand={
             "crates/tz_rule/src/timezone/utc_statics.rt": "bindings/rust/src/proved/tz_rule/timezone/utc_statics.rs",
-            "crates/tz_zone/src/table/transition_view.rt": "bindings/rust/src/proved/tz_zone/table/transition_view.rs",
             "": "bindings/rust/src/proved/mod.rs",
         },
         std_paths=STD,
@@ -174,14 +173,8 @@ LEFT_OUT = {
     # In Rust the current time is no argument.
     "crates/tz/src/datetime/date_time.rt": {"DateTime::now"},
     "crates/tz/src/datetime/utc_date_time.rt": {"UtcDateTime::now"},
-    # In Rust these have no allocator, and nothing counts.
-    "crates/tz/src/datetime/find.rt": {
-        "DateTime::find",
-        "DateTime::find_local",
-        "DateTime::find_n_counted",
-        "DateTime::listed_counted",
-    },
-    "crates/tz_zone/src/timezone/zone_ref.rt": {"TimeZoneRef::find_local_time_type_counted"},
+    # In Rust these have no allocator.
+    "crates/tz/src/datetime/find.rt": {"DateTime::find", "DateTime::find_local"},
 }
 
 # Fields that are not compared in Rattle, and follow from those that are.

@@ -30,7 +30,6 @@ def erased(package, path, text):
     text = with_errors(path, text, texts)
     text = with_derives(path, text)
     text = with_formatters(path, text)
-    text = with_views(path, text)
     text = with_safe_text(path, text)
     text = made_constant(path, text)
     text = with_methods(path, text)
@@ -282,32 +281,6 @@ def with_bounds(path, text):
     """`Drop` as a bound says in Rattle that a value may be dropped, as each may in Rust."""
     text = re.sub(r"\s*\+\s*Drop\b", "", text)
     return re.sub(r"<([A-Z]): Drop>", r"<\1>", text)
-
-
-def with_views(path, text):
-    """Functions over any view of transitions are of the one that does not count: methods of a trait are not const."""
-    edits = []
-    if re.search(r"\bV: Transitions\b", text):
-        text = re.sub(r"<V: Transitions>", "", text)
-        text = re.sub(r", V: Transitions\b", "", text)
-        text = re.sub(r"\bV: Transitions, ", "", text)
-        text = re.sub(r"&mut V\b", "&mut Uncounted<'_>", text)
-        if re.search(r"\bV\b", "\n".join(it for it in text.splitlines() if not it.strip().startswith("//"))):
-            raise Stop(f"{path}: a view in a form that is not known")
-    for found in re.finditer(r"^(?:pub )?use [^;]*;", text, re.M):
-        line = found[0]
-        if re.search(r"\bTransitions\b", line):
-            new = re.sub(r"\bTransitions\b", "", line) if re.search(r"\bUncounted\b", line) else re.sub(r"\bTransitions\b", "Uncounted", line)
-            new = re.sub(r",\s*,", ",", new)
-            new = re.sub(r"\{\s*,", "{", new)
-            edits.append((found.start(), found.end(), new))
-        if re.search(r"\bCounted\b", line):
-            if edits and edits[-1][0] == found.start():
-                edits.pop()
-                line = new
-            new = re.sub(r"\bCounted,\s*|,\s*Counted\b|^use [\w:]*::Counted;$", "", line)
-            edits.append((found.start(), found.end(), new))
-    return edited(text, edits)
 
 
 def with_must_use(path, text):

@@ -206,11 +206,6 @@ class Cuts(unittest.TestCase):
                 made = f"const fn one() -> i64 {{ {made} }}"
                 self.assertEqual(erased(f"fn one() -> i64 {{ {source} }}"), made)
 
-    def test_an_import_of_the_counting_view(self):
-        made = erased("use crate::one::Counted;\nuse crate::two::{Counted, Uncounted};\n")
-        self.assertNotRegex(made, r"\bCounted\b")
-        self.assertIn("two::{Uncounted};", made)
-
 
 class Exports(unittest.TestCase):
     """A function for C, and the source's own."""

@@ -24,11 +24,9 @@ CALLS = (
     (r"\b(assert|assert_eq|panic)!\(\s*&?rt;", r"\1!("),
     (r"\bformat!\(\s*in ", "format_in!("),
     (r"\.(to_string|repeat|replace)\((?=(?:rt\.)?alloc\b)", r".\1_in("),
-    # These have no allocator, no time or no count in Rust, and so are no methods.
+    # These have no allocator or no time in Rust, and so are no methods.
     (r"\bDateTime::(find|find_local)\((?=\s*alloc\b)", r"kit::\1("),
-    (r"\bDateTime::find_n_counted\(", "kit::find_n_counted("),
     (r"\b((?:Utc)?DateTime)::now\(", r"\1::from_timespec("),
-    (r"\.find_local_time_type_counted\(", ".find_local_time_type_not_counted("),
     # Rust's vectors have no iterator of their own here.
     (r"\bin &list\.into_inner\(\)", "in list.into_inner().iter()"),
 )
@@ -197,7 +195,6 @@ KIT = {
     "Vec": r"(?<![\w:])Vec(?=::|<)",
     "format_in": r"\bformat_in!",
     "BytesIn": r"\.repeat_in\(",
-    "NotCounted": r"\.find_local_time_type_not_counted\(",
     "PrintedIn": r"\.to_string_in\(",
     "Resized": r"\.(?:resize|truncate)\(",
     "TextIn": r"\.(?:repeat|replace)_in\(",

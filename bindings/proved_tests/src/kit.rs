@@ -3,12 +3,12 @@
 
 use std::fmt::{self, Debug, Display, Write};
 use std::ops::Deref;
-use tz::datetime::{DateTime, FoundDateTimeKind, FoundDateTimeListRefMut, UtcDateTime};
+use tz::datetime::{DateTime, UtcDateTime};
 use tz::error::TzError;
 use tz::proved::tz::datetime::FoundDateTimeList;
 use tz::proved::tz::inner::{Fields, find_fields};
 use tz::proved::tz_zone::inner::plain;
-use tz::proved::tz_zone::timezone::{LocalTimeType, TimeZoneRef};
+use tz::proved::tz_zone::timezone::TimeZoneRef;
 use tz::shim::alloc::{AllocError, Allocator, Global};
 use tz::shim::rt::{Files, Machine};
 
@@ -358,49 +358,5 @@ fn expect_found<A: Allocator + Copy>(
         (Err(TzError::Memory(_)), _) => {}
         (Err(error), Err(other)) => assert_eq!(error.to_string(), other.to_string()),
         (_, listed) => panic!("{found:?}, but {listed:?}"),
-    }
-}
-
-/// What [`DateTime::find_n`] returns. Looks are not counted.
-#[allow(clippy::too_many_arguments)]
-pub fn find_n_counted<'a>(
-    buf: &'a mut [Option<FoundDateTimeKind>],
-    year: i32,
-    month: u8,
-    month_day: u8,
-    hour: u8,
-    minute: u8,
-    second: u8,
-    nanoseconds: u32,
-    zone: TimeZoneRef<'_>,
-) -> Result<(FoundDateTimeListRefMut<'a>, u64), TzError> {
-    let list = DateTime::find_n(
-        buf,
-        year,
-        month,
-        month_day,
-        hour,
-        minute,
-        second,
-        nanoseconds,
-        zone,
-    )?;
-    Ok((list, 0))
-}
-
-/// Lookups whose looks are not counted.
-pub trait NotCounted<'a> {
-    fn find_local_time_type_not_counted(
-        &self,
-        unix_time: i64,
-    ) -> (Result<&'a LocalTimeType, TzError>, u64);
-}
-
-impl<'a> NotCounted<'a> for TimeZoneRef<'a> {
-    fn find_local_time_type_not_counted(
-        &self,
-        unix_time: i64,
-    ) -> (Result<&'a LocalTimeType, TzError>, u64) {
-        (self.find_local_time_type(unix_time), 0)
     }
 }

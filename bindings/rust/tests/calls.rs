@@ -88,6 +88,32 @@ fn gaps_and_folds_are_found() {
 }
 
 #[test]
+fn reads_are_counted_within_their_bounds() {
+    let types = [0, 3600].map(|offset| LocalTimeType::with_ut_offset(offset).unwrap());
+    for count in [0, 1, 8, 9, 127, 128, 1024, 1025] {
+        // Two a year, so that a call without a count guesses.
+        let transitions: Vec<_> = (0..count)
+            .map(|at| Transition::new(at as i64 * 15_778_476, 1 - at % 2))
+            .collect();
+        let zone = TimeZoneRef::new(&transitions, &types, &[], &None).unwrap();
+        let digits = u64::from(usize::BITS - count.leading_zeros());
+        for instant in transitions.iter().map(Transition::unix_leap_time) {
+            let (found, looks) = zone.find_local_time_type_counted(instant);
+            assert_eq!(found.ok(), zone.find_local_time_type(instant).ok());
+            assert!(1 <= looks && looks <= digits + 2, "{count}: {looks}");
+        }
+        let (mut slots, mut same) = ([None; 2], [None; 2]);
+        let (found, looks) =
+            DateTime::find_n_counted(&mut slots, 1985, 7, 2, 12, 30, 0, 0, zone).unwrap();
+        let uncounted = DateTime::find_n(&mut same, 1985, 7, 2, 12, 30, 0, 0, zone).unwrap();
+        assert_eq!(found.data(), uncounted.data());
+        // No transition is in the window of this local time.
+        assert!(u64::from(count > 0) <= looks && looks <= 2 * digits + 4);
+        assert_eq!(looks == 0, count == 0);
+    }
+}
+
+#[test]
 fn a_choice_makes_one_date_time() {
     use Disambiguation::{Compatible, Earlier, Later, Reject};
     let zone = central_europe();

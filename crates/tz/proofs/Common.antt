@@ -56,6 +56,7 @@ pub use Rattle.tz_zone.proofs.LeapTimes.{IsInstant-from_bounds, instant_bounds, 
 pub use Rattle.tz_zone.specs.Bytes.{comma, minus_sign, slash, closing_bracket, colon, dot, opening_bracket, plus_sign}
 pub use Rattle.tz_zone.specs.Clock.{IsClock, IsTypeAfter, HasNoType, IsOver, IsTypeAt, IsTypeWithout}
 pub use Rattle.tz_zone.specs.ClockSpans.{IsStage}
+pub use Rattle.tz_zone.specs.Looks.{list_of, looks_of}
 pub use Rattle.tz_zone.specs.Offsets.{AreEndOffsets, IsGreatestOffset, IsLeastOffset, IsOffsetOfRule}
 pub use Rattle.tz_zone.specs.Table.{Zone, LeapSecond, Transition}
 pub use Rattle.tz_zone.specs.TzText.{Begins, IsTimeUpTo, IsNumber, IsRuleText, IsTimeOfRule, TimeText, seconds_of, AlternateText, IsAlternateInRange, IsAlternateText, IsDay, IsDayTime, IsDaylightOffset, IsHms, IsName, IsNameAndOffset, IsPart, IsRuleInRange, IsRun, IsSignedTime, IsTzText, SwitchText, day_time_hours, daylight_offset_of, dst_type_of, is_in_brackets, offset_hours, rule_of, std_type_of, ut_offset_of}

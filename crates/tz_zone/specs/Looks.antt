@@ -1,7 +1,21 @@
--- Counts of looks at a list: by at most one for each look. A count of 64 bits stays at its
--- greatest.
-use Rattle.std.specs.Prelude.{ℕ, ◌+◌, ◌≤◌, true, false, nat_lt, if◌then◌else◌}
+-- A view of transitions, and its count of looks: one more for each look. A count of 64 bits stays
+-- at its greatest.
+use Rattle.std.specs.Prelude.{ℕ, ◌+◌, ◌≤◌, List, Bool, true, false, nat_lt, if◌then◌else◌}
 use Rattle.std.proofs.Common.{arith}
+use Rattle.tz_zone.specs.Table.{Transition}
+use Rattle.tz_zone.specs.declared.table.transition_view.TransitionView.{TransitionView}
+
+-- the transitions, in order
+abbrev pub list_of : TransitionView → List Transition
+list_of view = view.transitions.now
+
+-- the number of looks so far
+abbrev pub looks_of : TransitionView → ℕ
+looks_of view = view.looks
+
+-- whether a position may be guessed, by reads that are not counted
+abbrev pub may_guess_of : TransitionView → Bool
+may_guess_of view = view.may_guess
 
 -- the count after one more look, in 64 bits
 abbrev pub one_look_more : ℕ → ℕ
@@ -16,10 +30,3 @@ pub one_look_more-one_more : (n : ℕ) → one_look_more n ≤ n + 1
 one_look_more-one_more n =
     elim (nat_lt n 18446744073709551615) as (λ t. (if t then n + 1 else n) ≤ n + 1)
     [ true ↦ omega arith | false ↦ omega arith ]
-
--- looks that are not counted
-pub same_looks-no_less : (n : ℕ) → n ≤ n
-same_looks-no_less n = omega arith
-
-pub same_looks-one_more : (n : ℕ) → n ≤ n + 1
-same_looks-one_more n = omega arith

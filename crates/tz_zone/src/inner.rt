@@ -12,7 +12,7 @@ pub use crate::leap::leap_time::{effect, leap};
 pub use crate::parse::after_byte;
 pub use crate::parse::tz_file::{FileSizes, file_sizes};
 pub use crate::parse::tz_string::{DEFAULT_HOUR, DEFAULT_SAVING, parse_posix_tz};
-pub use crate::table::{Counted, Transitions, Uncounted};
+pub use crate::table::TransitionView;
 use crate::timezone::TimeZoneRef;
 pub use crate::timezone::files::{open_fault, read_to_end};
 pub use crate::timezone::zone_data::{RuleSource, ZoneData};

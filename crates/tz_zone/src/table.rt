@@ -5,7 +5,7 @@ ghost use Rattle.std.specs.Prelude.{◌≡◌};
 mod transition_view;
 
 use std::marker::Model;
-pub use transition_view::{Counted, Transitions, Uncounted};
+pub use transition_view::TransitionView;
 
 /// A leap time from which on a local time type holds.
 #[repr(C)]

@@ -22,7 +22,7 @@ use super::zone_data_searches::from_timespec;
 use super::{DateTime, UtcDateTime};
 use tz_base::error::TzError;
 use tz_base::fields::{Fields, local_reading};
-use tz_zone::inner::{Uncounted, WindowTypes, ZoneData, plain};
+use tz_zone::inner::{TransitionView, WindowTypes, ZoneData, plain};
 use tz_zone::timezone::{LocalTimeType, TimeZoneRef};
 
 /// An entry of a reading.
@@ -217,7 +217,7 @@ fn ends_by_walk<'a>(
         (IsRefused IsOutsideFault (IsClock (zone_of_data zone.entry)) reading) }
 {
     let mut ends = Ends::none();
-    let mut view = Uncounted::new(zone.transitions());
+    let mut view = TransitionView::new(zone.transitions());
     give_in_window(&mut ends, reading, &mut view, zone, types, low, high)?;
     Ok(ends)
 }
@@ -245,7 +245,7 @@ pub fn ends_by_types<'a>(
         return ends_by_walk(reading, *zone, types, low, high);
     }
     let mut ends = Ends::none();
-    let mut view = Uncounted::new(zone.transitions());
+    let mut view = TransitionView::new(zone.transitions());
     give_in_window(&mut ends, reading, &mut view, *zone, types, low, high)?;
     Ok(ends)
 }

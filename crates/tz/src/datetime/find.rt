@@ -3,6 +3,7 @@
 ghost use Rattle.std.specs.Prelude.{◌≡◌, ◌⊎◌, ◌+◌, ◌^◌, ◌<◌, ◌≤◌, List, length, ⊤, IfOk, OnOk};
 ghost use Rattle.tz_base.specs.Fields.{IsValid, reading};
 ghost use Rattle.tz_zone.specs.Clock.{IsClock};
+ghost use Rattle.tz_zone.specs.Looks.{list_of, looks_of, one_look_more};
 ghost use Rattle.tz_zone.specs.ZoneOfData.{zone_of_data};
 ghost use Rattle.tz.specs.Found.{IsFound};
 ghost use Rattle.tz.specs.Lists.{found_of};
@@ -15,7 +16,7 @@ use super::{DateTime, FoundDateTimeKind, FoundDateTimeList, FoundDateTimeListRef
 use std::alloc::Allocator;
 use tz_base::error::TzError;
 use tz_base::fields::Fields;
-use tz_zone::inner::{Counted, Transitions, Uncounted, ZoneData, plain};
+use tz_zone::inner::{TransitionView, ZoneData, plain};
 use tz_zone::timezone::TimeZoneRef;
 
 /// A search that failed, and the buffer as it left it.
@@ -36,26 +37,26 @@ pub fn find_fields<A: Allocator + Copy>(
     ensures outcome { IsOutcome (λ e. e) ⊤ (zone_of_data zone.now) fields.now result }
 {
     let mut list = FoundDateTimeList::new_in(alloc);
-    let mut view = Uncounted::new(zone.transitions());
+    let mut view = TransitionView::new(zone.transitions());
     find_in(&mut list, fields, &mut view, zone)?;
     Ok(list)
 }
 
 /// Adds what [`DateTime::find`] finds of the fields to a list, through a view of the zone's
 /// transitions.
-pub(super) fn find_in<L: DateTimeList, V: Transitions>(
+pub(super) fn find_in<L: DateTimeList>(
     list: &mut L,
     fields: &Fields,
-    view: &mut V,
+    view: &mut TransitionView<'_>,
     zone: &ZoneData<'_>,
 ) -> Result<(), TzError>
-    requires { V.list view.old ≡ (zone_of_data zone.now).transitions }
+    requires { list_of view.old ≡ (zone_of_data zone.now).transitions }
     ensures ok { OnOk result ((found : List FoundDateTimeKind) × L.gains list.old list.new found
         × IsFound (IsClock (zone_of_data zone.now)) fields.now found × (length found ≤ 2 ^ 33)) }
     ensures untouched { IsValid fields.now ⊎ (list.new ≡ list.old) }
     ensures outcome { IsOutcome (λ e. e) L.takes_memory (zone_of_data zone.now) fields.now result }
-    ensures looks { AreLooksOf (zone_of_data zone.now) (reading fields.now) (V.looks view.old)
-        (V.next (V.looks view.old)) (V.looks view.new) result }
+    ensures looks { AreLooksOf (zone_of_data zone.now) (reading fields.now) (looks_of view.old)
+        (one_look_more (looks_of view.old)) (looks_of view.new) result }
 {
     // For the proof, which bounds the entries by these offsets.
     let (_least, _greatest) = zone.offsets();
@@ -233,7 +234,7 @@ impl DateTime {
             × (count_of list ≡ length found) × (slots_of list ≡ filled buf.old found)) }
         ensures outcome { IsOutcome (λ e. e) ⊥ (zone_of time_zone_ref.entry) local result }
     {
-        let mut view = Uncounted::new(time_zone_ref.transitions());
+        let mut view = TransitionView::new(time_zone_ref.transitions());
         match DateTime::listed_in(buf, local.fields(), &mut view, &plain(&time_zone_ref)) {
             Ok(list) => Ok(list),
             Err(refused) => Err(refused.fault),
@@ -325,7 +326,7 @@ impl DateTime {
             (fields_of year month month_day hour minute second nanoseconds) result }
     {
         let fields = Fields::new(year, month, month_day, hour, minute, second, nanoseconds);
-        let mut view = Uncounted::new(time_zone_ref.transitions());
+        let mut view = TransitionView::new(time_zone_ref.transitions());
         DateTime::listed_in(buf, &fields, &mut view, &plain(&time_zone_ref))
     }
 
@@ -366,20 +367,20 @@ impl DateTime {
             → counted.1 ≡ 0) }
     {
         let fields = Fields::new(year, month, month_day, hour, minute, second, nanoseconds);
-        let mut view = Counted::new(time_zone_ref.transitions());
+        let mut view = TransitionView::counted(time_zone_ref.transitions());
         let list = DateTime::listed_in(buf, &fields, &mut view, &plain(&time_zone_ref))?;
         Ok((list, view.looks()))
     }
 
     /// What [`DateTime::find_n`] returns for the fields, through a view of the zone's transitions,
     /// or the buffer and the error.
-    fn listed_in<'a, V: Transitions>(
+    fn listed_in<'a>(
         buf: &'a mut [Option<FoundDateTimeKind>],
         fields: &Fields,
-        view: &mut V,
+        view: &mut TransitionView<'_>,
         zone: &ZoneData<'_>,
     ) -> Result<FoundDateTimeListRefMut<'a>, Refused<'a>>
-        requires { V.list view.old ≡ (zone_of_data zone.now).transitions }
+        requires { list_of view.old ≡ (zone_of_data zone.now).transitions }
         ensures same_reference { IfOk result (λ list. reference_of list ≡ buf.entry.ghost_name) }
         ensures ok { IfOk result (λ list. (found : List FoundDateTimeKind)
             × IsFound (IsClock (zone_of_data zone.now)) fields.now found
@@ -390,8 +391,8 @@ impl DateTime {
             IsValid fields.now ⊎ (refused.buf.now ≡ buf.old)) }
         ensures outcome { IsOutcome (λ refused. refused.fault) ⊥ (zone_of_data zone.now)
             fields.now result }
-        ensures looks { AreLooksOf (zone_of_data zone.now) (reading fields.now) (V.looks view.old)
-            (V.next (V.looks view.old)) (V.looks view.new) result }
+        ensures looks { AreLooksOf (zone_of_data zone.now) (reading fields.now) (looks_of view.old)
+            (one_look_more (looks_of view.old)) (looks_of view.new) result }
     {
         let mut writer = SlotWriter::new(buf, 0);
         match find_in(&mut writer, fields, view, zone) {

@@ -6,6 +6,7 @@ ghost use Rattle.std.specs.Prelude.{◌≡◌, ◌+◌, ◌*◌, ◌^◌, ◌<�
 ghost use Rattle.std.specs.Prelude.{OnOk, IfErr, MatchBool, length};
 ghost use Rattle.tz_base.specs.Fields.{IsValid, reading as reading_of};
 ghost use Rattle.tz_zone.specs.Clock.{IsClock};
+ghost use Rattle.tz_zone.specs.Looks.{list_of, looks_of, one_look_more};
 ghost use Rattle.tz_zone.specs.Table.{Zone};
 ghost use Rattle.tz_zone.specs.WindowTypes.{AreTypesIn, IfMore, IsPositionOf};
 ghost use Rattle.tz_zone.specs.ZoneOfData.{zone_of_data};
@@ -21,9 +22,7 @@ ghost use Rattle.tz.specs.declared.datetime.found.FoundDateTimeKind.{FoundDateTi
 use super::entry_takers::{DateTimeList, Dated, EntryTaker};
 use tz_base::error::TzError;
 use tz_base::fields::Fields;
-use tz_zone::inner::{
-    Transitions, Uncounted, WindowTypes, ZoneData, first_stage, span_from, window_types,
-};
+use tz_zone::inner::{TransitionView, WindowTypes, ZoneData, first_stage, span_from, window_types};
 use tz_zone::timezone::LocalTimeType;
 
 /// The instant at which a type shows a reading.
@@ -122,28 +121,28 @@ fn give_around<'a, E: EntryTaker<'a>>(
 /// Gives all that a reading has in its window, in order, by the spans of the clock from the
 /// position on at which the window begins.
 #[cold]
-fn walk<'a, E: EntryTaker<'a>, V: Transitions>(
+fn walk<'a, E: EntryTaker<'a>>(
     entries: &mut E,
     reading: i64,
-    view: &mut V,
+    view: &mut TransitionView<'_>,
     zone: ZoneData<'a>,
     position: Option<usize>,
     low: i64,
     high: i64,
 ) -> Result<(), TzError>
-    requires view { V.list view.old ≡ (zone_of_data zone).transitions }
+    requires view { list_of view.old ≡ (zone_of_data zone).transitions }
     requires searchable { IsSearchable (zone_of_data zone) reading low high }
     requires takes { TakesFrom E.gains E.takes entries.old reading }
     requires position { IsPositionOf (zone_of_data zone) low position }
     ensures ok { OnOk result (Finds E.gains (IsClock (zone_of_data zone.entry)) reading
         entries.old entries.new) }
     ensures err { IfErr result (IsRefused E.refuses (IsClock (zone_of_data zone.entry)) reading) }
-    ensures kept { V.looks view.old ≤ V.looks view.new }
-    ensures at_most { OnOk result ((b w : ℕ) → length (V.list view.old) < 2 ^ b
+    ensures kept { looks_of view.old ≤ looks_of view.new }
+    ensures at_most { OnOk result ((b w : ℕ) → length (list_of view.old) < 2 ^ b
         → AtMostTakeEffectIn (zone_of_data zone.entry) low high w
-        → V.looks view.new ≤ V.looks view.old + (first_looks position b + w)) }
-    ensures none { OnOk result (length (V.list view.old) ≡ 0
-        → V.looks view.new ≡ V.looks view.old) }
+        → looks_of view.new ≤ looks_of view.old + (first_looks position b + w)) }
+    ensures none { OnOk result (length (list_of view.old) ≡ 0
+        → looks_of view.new ≡ looks_of view.old) }
 {
     let Some((first, stage)) = first_stage(view, &zone, position, low) else {
         return Ok(());
@@ -170,16 +169,16 @@ fn walk<'a, E: EntryTaker<'a>, V: Transitions>(
 
 /// Gives all that a reading has in its window, in order, by the types that the clock has there.
 #[inline(always)]
-pub(super) fn give_in_window<'a, E: EntryTaker<'a>, V: Transitions>(
+pub(super) fn give_in_window<'a, E: EntryTaker<'a>>(
     entries: &mut E,
     reading: i64,
-    view: &mut V,
+    view: &mut TransitionView<'_>,
     zone: ZoneData<'a>,
     types: WindowTypes<'a>,
     low: i64,
     high: i64,
 ) -> Result<(), TzError>
-    requires view { V.list view.old ≡ (zone_of_data zone).transitions }
+    requires view { list_of view.old ≡ (zone_of_data zone).transitions }
     requires searchable { IsSearchable (zone_of_data zone) reading low high }
     requires takes { TakesFrom E.gains E.takes entries.old reading }
     requires types { AreTypesIn (IsClock (zone_of_data zone)) low high types }
@@ -187,12 +186,12 @@ pub(super) fn give_in_window<'a, E: EntryTaker<'a>, V: Transitions>(
     ensures ok { OnOk result (Finds E.gains (IsClock (zone_of_data zone.entry)) reading
         entries.old entries.new) }
     ensures err { IfErr result (IsRefused E.refuses (IsClock (zone_of_data zone.entry)) reading) }
-    ensures kept { V.looks view.old ≤ V.looks view.new }
-    ensures at_most { OnOk result ((b w : ℕ) → length (V.list view.old) < 2 ^ b
+    ensures kept { looks_of view.old ≤ looks_of view.new }
+    ensures at_most { OnOk result ((b w : ℕ) → length (list_of view.old) < 2 ^ b
         → AtMostTakeEffectIn (zone_of_data zone.entry) low high w
-        → V.looks view.new ≤ V.looks view.old + looks_after types.entry b w) }
-    ensures none { OnOk result (length (V.list view.old) ≡ 0
-        → V.looks view.new ≡ V.looks view.old) }
+        → looks_of view.new ≤ looks_of view.old + looks_after types.entry b w) }
+    ensures none { OnOk result (length (list_of view.old) ≡ 0
+        → looks_of view.new ≡ looks_of view.old) }
 {
     match types {
         WindowTypes::One(local_time_type) => {
@@ -205,33 +204,40 @@ pub(super) fn give_in_window<'a, E: EntryTaker<'a>, V: Transitions>(
             before,
             after,
         } => give_around(entries, reading, unix_time, before, after),
-        WindowTypes::More(position) => walk(entries, reading, view, zone, position, low, high),
+        WindowTypes::More(position) => {
+            // A view of its own, so that without a walk the caller's need not be in memory, and its
+            // count is not computed where nobody asks for it.
+            let mut rest = view.fresh();
+            let answer = walk(entries, reading, &mut rest, zone, position, low, high);
+            view.add_looks(rest.looks());
+            answer
+        }
     }
 }
 
 /// Gives all that a reading has in its window, in order.
 #[inline(always)]
-fn search_window<'a, E: EntryTaker<'a>, V: Transitions>(
+fn search_window<'a, E: EntryTaker<'a>>(
     entries: &mut E,
     reading: i64,
-    view: &mut V,
+    view: &mut TransitionView<'_>,
     zone: ZoneData<'a>,
     low: i64,
     high: i64,
 ) -> Result<(), TzError>
-    requires view { V.list view.old ≡ (zone_of_data zone).transitions }
+    requires view { list_of view.old ≡ (zone_of_data zone).transitions }
     requires searchable { IsSearchable (zone_of_data zone) reading low high }
     requires takes { TakesFrom E.gains E.takes entries.old reading }
     ensures ok { OnOk result (Finds E.gains (IsClock (zone_of_data zone.entry)) reading
         entries.old entries.new) }
     ensures err { IfErr result (IsRefused E.refuses (IsClock (zone_of_data zone.entry)) reading) }
-    ensures at_most { OnOk result ((b w : ℕ) → length (V.list view.old) < 2 ^ b
+    ensures at_most { OnOk result ((b w : ℕ) → length (list_of view.old) < 2 ^ b
         → AtMostTakeEffectIn (zone_of_data zone.entry) low high w
-        → V.looks view.new ≤ V.looks view.old + (2 * b + w + 4)) }
-    ensures at_least_one { OnOk result (0 < length (V.list view.old)
-        → V.next (V.looks view.old) ≤ V.looks view.new) }
-    ensures none { OnOk result (length (V.list view.old) ≡ 0
-        → V.looks view.new ≡ V.looks view.old) }
+        → looks_of view.new ≤ looks_of view.old + (2 * b + w + 4)) }
+    ensures at_least_one { OnOk result (0 < length (list_of view.old)
+        → one_look_more (looks_of view.old) ≤ looks_of view.new) }
+    ensures none { OnOk result (length (list_of view.old) ≡ 0
+        → looks_of view.new ≡ looks_of view.old) }
 {
     let types = window_types(view, zone, low, high);
     give_in_window(entries, reading, view, zone, types, low, high)
@@ -270,26 +276,26 @@ pub fn types_of_window<'a>(zone: &ZoneData<'a>, low: i64, high: i64) -> WindowTy
     ensures types { AreTypesIn (IsClock (zone_of_data zone.now)) low high result }
     ensures position { IfMore result (IsPositionOf (zone_of_data zone.now) low) }
 {
-    let mut view = Uncounted::new(zone.transitions());
+    let mut view = TransitionView::new(zone.transitions());
     window_types(&mut view, *zone, low, high)
 }
 
 /// Adds the entries for valid fields to the list, in order.
-pub(super) fn search<L: DateTimeList, V: Transitions>(
+pub(super) fn search<L: DateTimeList>(
     list: &mut L,
     fields: &Fields,
-    view: &mut V,
+    view: &mut TransitionView<'_>,
     zone: &ZoneData<'_>,
 ) -> Result<(), TzError>
     requires valid { IsValid fields.now }
-    requires view { V.list view.old ≡ (zone_of_data zone.now).transitions }
+    requires view { list_of view.old ≡ (zone_of_data zone.now).transitions }
     ensures ok { OnOk result ((found : List FoundDateTimeKind) × L.gains list.old list.new found
         × IsFound (IsClock (zone_of_data zone.now)) fields.now found × (length found ≤ 2 ^ 33)) }
     ensures made { OnOk result (EachCanBeMade (IsClock (zone_of_data zone.now)) fields.now) }
     ensures err { IfErr result
         (IsSearchFault L.takes_memory (IsClock (zone_of_data zone.now)) fields.now) }
-    ensures looks { AreLooksOf (zone_of_data zone.now) (reading_of fields.now) (V.looks view.old)
-        (V.next (V.looks view.old)) (V.looks view.new) result }
+    ensures looks { AreLooksOf (zone_of_data zone.now) (reading_of fields.now) (looks_of view.old)
+        (one_look_more (looks_of view.old)) (looks_of view.new) result }
 {
     let reading = fields.reading();
     let (low, high) = window_of(zone, reading);

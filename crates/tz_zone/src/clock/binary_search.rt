@@ -6,13 +6,14 @@ ghost use Rattle.std.specs.Prelude.{IfNone, MatchOption};
 ghost use Rattle.tz_zone.specs.Clock.{AreReached, AreAhead, IsLast, IsPositionAt};
 ghost use Rattle.tz_zone.specs.ClockSegments.{IsReachedAt};
 ghost use Rattle.tz_zone.specs.LeapTime.{IsLeapTimeRefused};
+ghost use Rattle.tz_zone.specs.Looks.{list_of, looks_of, may_guess_of, one_look_more};
 ghost use Rattle.tz_zone.specs.PositionsLeft.{IsAmongPositions};
 ghost use Rattle.tz_zone.specs.Runs.{LiesAt};
 ghost use Rattle.tz_zone.specs.ValidZone.{IsRising};
 ghost use Rattle.tz_zone.specs.ZoneOfData.{zone_of_data};
 
 use crate::leap::leap_time::leap_time;
-use crate::table::{Transition, Transitions, Uncounted};
+use crate::table::{Transition, TransitionView};
 use crate::timezone::zone_data::ZoneData;
 
 /// How many positions the last seven looks of a halving choose from.
@@ -40,21 +41,21 @@ const fn power_up_to(number: usize) -> usize
 /// The later of two positions, if the transition before it is reached at a leap time, or else the
 /// earlier one.
 #[inline(always)]
-fn position_after_look<V: Transitions>(
-    view: &mut V,
+fn position_after_look(
+    view: &mut TransitionView<'_>,
     position: usize,
     later: usize,
     unix_leap_time: i64,
 ) -> usize
-    requires rising { IsRising (V.list view.old) }
+    requires rising { IsRising (list_of view.old) }
     requires order { position < later }
-    requires within { later ≤ length (V.list view.old) }
-    ensures same { V.list view.new ≡ V.list view.old }
-    ensures position { ((result ≡ later) × AreReached (V.list view.old) unix_leap_time later)
-        ⊎ ((result ≡ position) × AreAhead (V.list view.old) unix_leap_time (later - 1)) }
-    ensures counted { V.looks view.new ≡ V.next (V.looks view.old) }
-    ensures kept { V.looks view.old ≤ V.looks view.new }
-    ensures at_most { V.looks view.new ≤ V.looks view.old + 1 }
+    requires within { later ≤ length (list_of view.old) }
+    ensures same { list_of view.new ≡ list_of view.old }
+    ensures position { ((result ≡ later) × AreReached (list_of view.old) unix_leap_time later)
+        ⊎ ((result ≡ position) × AreAhead (list_of view.old) unix_leap_time (later - 1)) }
+    ensures counted { looks_of view.new ≡ one_look_more (looks_of view.old) }
+    ensures kept { looks_of view.old ≤ looks_of view.new }
+    ensures at_most { looks_of view.new ≤ looks_of view.old + 1 }
 {
     if view.look(later - 1).unix_leap_time() <= unix_leap_time {
         later
@@ -65,15 +66,15 @@ fn position_after_look<V: Transitions>(
 
 /// Of twice `count` positions from `position` on, the first of the `count` among which the leap
 /// time's position is, by a look at the transition in the middle.
-fn half<V: Transitions>(view: &mut V, position: usize, count: usize, unix_leap_time: i64) -> usize
-    requires rising { IsRising (V.list view.old) }
+fn half(view: &mut TransitionView<'_>, position: usize, count: usize, unix_leap_time: i64) -> usize
+    requires rising { IsRising (list_of view.old) }
     requires some { 0 < count }
-    requires among { IsAmongPositions (V.list view.old) unix_leap_time position (count + count) }
-    ensures same { V.list view.new ≡ V.list view.old }
-    ensures rising { IsRising (V.list view.new) }
-    ensures among { IsAmongPositions (V.list view.new) unix_leap_time result count }
-    ensures kept { V.looks view.old ≤ V.looks view.new }
-    ensures at_most { V.looks view.new ≤ V.looks view.old + 1 }
+    requires among { IsAmongPositions (list_of view.old) unix_leap_time position (count + count) }
+    ensures same { list_of view.new ≡ list_of view.old }
+    ensures rising { IsRising (list_of view.new) }
+    ensures among { IsAmongPositions (list_of view.new) unix_leap_time result count }
+    ensures kept { looks_of view.old ≤ looks_of view.new }
+    ensures at_most { looks_of view.new ≤ looks_of view.old + 1 }
 {
     // By this read the proof knows that the sum fits.
     let _len = view.len();
@@ -85,21 +86,21 @@ fn half<V: Transitions>(view: &mut V, position: usize, count: usize, unix_leap_t
 ///
 /// A step compares once, and changes `position` by that alone; no step needs a branch of its own.
 #[inline(always)]
-fn halved<V: Transitions>(
-    view: &mut V,
+fn halved(
+    view: &mut TransitionView<'_>,
     position: usize,
     count: usize,
     least: usize,
     unix_leap_time: i64,
 ) -> usize
-    requires rising { IsRising (V.list view.old) }
+    requires rising { IsRising (list_of view.old) }
     requires powers { (e f : ℕ) × (count ≡ 2 ^ e) × (least ≡ 2 ^ f) × (f ≤ e) }
-    requires among { IsAmongPositions (V.list view.old) unix_leap_time position count }
-    ensures same { V.list view.new ≡ V.list view.old }
-    ensures among { IsAmongPositions (V.list view.new) unix_leap_time result least }
-    ensures kept { V.looks view.old ≤ V.looks view.new }
+    requires among { IsAmongPositions (list_of view.old) unix_leap_time position count }
+    ensures same { list_of view.new ≡ list_of view.old }
+    ensures among { IsAmongPositions (list_of view.new) unix_leap_time result least }
+    ensures kept { looks_of view.old ≤ looks_of view.new }
     ensures at_most { (e f : ℕ) → count ≡ 2 ^ e → least ≡ 2 ^ f → f ≤ e
-        → V.looks view.new + f ≤ V.looks view.old + e }
+        → looks_of view.new + f ≤ looks_of view.old + e }
 {
     let mut position = position;
     let mut left = count;
@@ -113,13 +114,13 @@ fn halved<V: Transitions>(
 /// The position of a leap time among 128, by seven looks. Each distance is a constant, so a step
 /// takes five instructions and no branch.
 #[inline(always)]
-fn position_in_block<V: Transitions>(view: &mut V, position: usize, unix_leap_time: i64) -> usize
-    requires rising { IsRising (V.list view.old) }
-    requires among { IsAmongPositions (V.list view.old) unix_leap_time position 128 }
-    ensures same { V.list view.new ≡ V.list view.old }
-    ensures among { IsAmongPositions (V.list view.new) unix_leap_time result 1 }
-    ensures kept { V.looks view.old ≤ V.looks view.new }
-    ensures at_most { V.looks view.new ≤ V.looks view.old + 7 }
+fn position_in_block(view: &mut TransitionView<'_>, position: usize, unix_leap_time: i64) -> usize
+    requires rising { IsRising (list_of view.old) }
+    requires among { IsAmongPositions (list_of view.old) unix_leap_time position 128 }
+    ensures same { list_of view.new ≡ list_of view.old }
+    ensures among { IsAmongPositions (list_of view.new) unix_leap_time result 1 }
+    ensures kept { looks_of view.old ≤ looks_of view.new }
+    ensures at_most { looks_of view.new ≤ looks_of view.old + 7 }
 {
     let among_64 = half(view, position, 64, unix_leap_time);
     let among_32 = half(view, among_64, 32, unix_leap_time);
@@ -134,16 +135,16 @@ fn position_in_block<V: Transitions>(view: &mut V, position: usize, unix_leap_ti
 ///
 /// After the first look the number of positions to choose from is a power of two.
 #[inline(always)]
-fn position_by_halving<V: Transitions>(view: &mut V, unix_leap_time: i64) -> usize
-    requires rising { IsRising (V.list view.old) }
-    requires at_least_one { 0 < length (V.list view.old) }
-    requires ahead { AreAhead (V.list view.old) unix_leap_time (length (V.list view.old) - 1) }
-    ensures same { V.list view.new ≡ V.list view.old }
-    ensures within { result < length (V.list view.old) }
-    ensures at { IsPositionAt (V.list view.old) unix_leap_time result }
-    ensures kept { V.looks view.old ≤ V.looks view.new }
-    ensures at_most { (b : ℕ) → length (V.list view.old) < 2 ^ b
-        → V.looks view.new ≤ V.looks view.old + b }
+fn position_by_halving(view: &mut TransitionView<'_>, unix_leap_time: i64) -> usize
+    requires rising { IsRising (list_of view.old) }
+    requires at_least_one { 0 < length (list_of view.old) }
+    requires ahead { AreAhead (list_of view.old) unix_leap_time (length (list_of view.old) - 1) }
+    ensures same { list_of view.new ≡ list_of view.old }
+    ensures within { result < length (list_of view.old) }
+    ensures at { IsPositionAt (list_of view.old) unix_leap_time result }
+    ensures kept { looks_of view.old ≤ looks_of view.new }
+    ensures at_most { (b : ℕ) → length (list_of view.old) < 2 ^ b
+        → looks_of view.new ≤ looks_of view.old + b }
 {
     let count = view.len();
     if count == 1 {
@@ -161,17 +162,15 @@ fn position_by_halving<V: Transitions>(view: &mut V, unix_leap_time: i64) -> usi
 /// The first of three positions, at one of which a leap time before the last transition lies if two
 /// transitions come in each year.
 #[inline(always)]
-fn first_by_time<V: Transitions>(view: &mut V, unix_leap_time: i64) -> usize
-    requires uncounted { (n : ℕ) → V.next n ≡ n }
-    requires some { LEAST_GUESSED ≤ length (V.list view.old) }
-    ensures same { V.list view.new ≡ V.list view.old }
-    ensures looks { V.looks view.new ≡ V.looks view.old }
+fn first_by_time(view: &TransitionView<'_>, unix_leap_time: i64) -> usize
+    requires guess { IsTrue (may_guess_of view.now) }
+    requires some { LEAST_GUESSED ≤ length (list_of view.now) }
     ensures some { 0 < result }
-    ensures within { result + 2 < length (V.list view.old) }
+    ensures within { result + 2 < length (list_of view.now) }
 {
     let count = view.len();
     let left = view
-        .look(count - 1)
+        .guessed_at(count - 1)
         .unix_leap_time()
         .abs_diff(unix_leap_time);
     let half_years = (left / HALF_YEAR).min((count - 3) as u64).max(1);
@@ -179,49 +178,65 @@ fn first_by_time<V: Transitions>(view: &mut V, unix_leap_time: i64) -> usize
 }
 
 /// Whether a leap time lies at one of three positions, by the transitions on either side of them.
-fn is_among_three<V: Transitions>(view: &mut V, position: usize, unix_leap_time: i64) -> bool
-    requires rising { IsRising (V.list view.old) }
-    requires uncounted { (n : ℕ) → V.next n ≡ n }
+fn is_among_three(view: &TransitionView<'_>, position: usize, unix_leap_time: i64) -> bool
+    requires guess { IsTrue (may_guess_of view.now) }
+    requires rising { IsRising (list_of view.now) }
     requires some { 0 < position }
-    requires within { position + 2 < length (V.list view.old) }
-    ensures same { V.list view.new ≡ V.list view.old }
-    ensures looks { V.looks view.new ≡ V.looks view.old }
-    ensures among { IsTrue result → IsAmongPositions (V.list view.old) unix_leap_time position 3 }
+    requires within { position + 2 < length (list_of view.now) }
+    ensures { IsTrue result → IsAmongPositions (list_of view.now) unix_leap_time position 3 }
 {
     // By this read the proof knows that the sum fits.
     let _len = view.len();
-    view.look(position - 1).unix_leap_time() <= unix_leap_time
-        && unix_leap_time < view.look(position + 2).unix_leap_time()
+    view.guessed_at(position - 1).unix_leap_time() <= unix_leap_time
+        && unix_leap_time < view.guessed_at(position + 2).unix_leap_time()
+}
+
+/// The later of two positions, if the transition before it is reached at a leap time, or else the
+/// earlier one, for a guess.
+fn position_after_guess(
+    view: &TransitionView<'_>,
+    position: usize,
+    later: usize,
+    unix_leap_time: i64,
+) -> usize
+    requires guess { IsTrue (may_guess_of view.now) }
+    requires rising { IsRising (list_of view.now) }
+    requires order { position < later }
+    requires within { later ≤ length (list_of view.now) }
+    ensures { ((result ≡ later) × AreReached (list_of view.now) unix_leap_time later)
+        ⊎ ((result ≡ position) × AreAhead (list_of view.now) unix_leap_time (later - 1)) }
+{
+    if view.guessed_at(later - 1).unix_leap_time() <= unix_leap_time {
+        later
+    } else {
+        position
+    }
 }
 
 /// The position of a leap time among three.
-fn position_among_three<V: Transitions>(view: &mut V, position: usize, unix_leap_time: i64) -> usize
-    requires rising { IsRising (V.list view.old) }
-    requires uncounted { (n : ℕ) → V.next n ≡ n }
-    requires among { IsAmongPositions (V.list view.old) unix_leap_time position 3 }
-    ensures same { V.list view.new ≡ V.list view.old }
-    ensures looks { V.looks view.new ≡ V.looks view.old }
-    ensures within { result < length (V.list view.old) }
-    ensures at { IsPositionAt (V.list view.old) unix_leap_time result }
+fn position_among_three(view: &TransitionView<'_>, position: usize, unix_leap_time: i64) -> usize
+    requires guess { IsTrue (may_guess_of view.now) }
+    requires rising { IsRising (list_of view.now) }
+    requires among { IsAmongPositions (list_of view.now) unix_leap_time position 3 }
+    ensures within { result < length (list_of view.now) }
+    ensures at { IsPositionAt (list_of view.now) unix_leap_time result }
 {
     // By this read the proof knows that the sums fit.
     let _len = view.len();
-    let next = position_after_look(view, position, position + 1, unix_leap_time);
-    position_after_look(view, next, position + 2, unix_leap_time)
+    let next = position_after_guess(view, position, position + 1, unix_leap_time);
+    position_after_guess(view, next, position + 2, unix_leap_time)
 }
 
 /// The position of a leap time before the last transition, if it is one of the three positions by
 /// time.
 #[inline(always)]
-fn guessed<V: Transitions>(view: &mut V, unix_leap_time: i64) -> Option<usize>
-    requires rising { IsRising (V.list view.old) }
-    requires uncounted { (n : ℕ) → V.next n ≡ n }
-    requires some { LEAST_GUESSED ≤ length (V.list view.old) }
-    ensures same { V.list view.new ≡ V.list view.old }
-    ensures looks { V.looks view.new ≡ V.looks view.old }
-    ensures within { IfSome result (λ position. position < length (V.list view.old)) }
+fn guessed(view: &TransitionView<'_>, unix_leap_time: i64) -> Option<usize>
+    requires guess { IsTrue (may_guess_of view.now) }
+    requires rising { IsRising (list_of view.now) }
+    requires some { LEAST_GUESSED ≤ length (list_of view.now) }
+    ensures within { IfSome result (λ position. position < length (list_of view.now)) }
     ensures at { IfSome result
-        (λ position. IsPositionAt (V.list view.old) unix_leap_time position) }
+        (λ position. IsPositionAt (list_of view.now) unix_leap_time position) }
 {
     let first = first_by_time(view, unix_leap_time);
     if is_among_three(view, first, unix_leap_time) {
@@ -234,22 +249,22 @@ fn guessed<V: Transitions>(view: &mut V, unix_leap_time: i64) -> Option<usize>
 /// The position at which a leap time before the last transition lies: by a guess, or else by
 /// halving.
 ///
-/// A guess may take looks in vain, so there is none if looks are counted. It decides nothing by
+/// A guess may read in vain, so there is none where the looks are to be few. It decides nothing by
 /// itself: it is taken only if the transitions around it show that it is right.
 #[inline(always)]
-fn position_before<V: Transitions>(view: &mut V, unix_leap_time: i64) -> usize
-    requires rising { IsRising (V.list view.old) }
-    requires at_least_one { 0 < length (V.list view.old) }
-    requires ahead { AreAhead (V.list view.old) unix_leap_time (length (V.list view.old) - 1) }
-    ensures same { V.list view.new ≡ V.list view.old }
-    ensures within { result < length (V.list view.old) }
-    ensures at { IsPositionAt (V.list view.old) unix_leap_time result }
-    ensures kept { V.looks view.old ≤ V.looks view.new }
-    ensures at_most { (b : ℕ) → length (V.list view.old) < 2 ^ b
-        → V.looks view.new ≤ V.looks view.old + b }
+fn position_before(view: &mut TransitionView<'_>, unix_leap_time: i64) -> usize
+    requires rising { IsRising (list_of view.old) }
+    requires at_least_one { 0 < length (list_of view.old) }
+    requires ahead { AreAhead (list_of view.old) unix_leap_time (length (list_of view.old) - 1) }
+    ensures same { list_of view.new ≡ list_of view.old }
+    ensures within { result < length (list_of view.old) }
+    ensures at { IsPositionAt (list_of view.old) unix_leap_time result }
+    ensures kept { looks_of view.old ≤ looks_of view.new }
+    ensures at_most { (b : ℕ) → length (list_of view.old) < 2 ^ b
+        → looks_of view.new ≤ looks_of view.old + b }
 {
     let count = view.len();
-    if count >= LEAST_GUESSED && count <= MOST_GUESSED && !view.is_counted() {
+    if count >= LEAST_GUESSED && count <= MOST_GUESSED && view.may_guess() {
         if let Some(position) = guessed(view, unix_leap_time) {
             return position;
         }
@@ -260,20 +275,20 @@ fn position_before<V: Transitions>(view: &mut V, unix_leap_time: i64) -> usize
 /// The position at which a leap time lies. If the last transition is reached, no other one is
 /// looked at.
 #[inline(always)]
-pub(super) fn position_of<V: Transitions>(
-    view: &mut V,
+pub(super) fn position_of(
+    view: &mut TransitionView<'_>,
     last: Transition,
     unix_leap_time: i64,
 ) -> usize
-    requires rising { IsRising (V.list view.old) }
-    requires last { IsLast (V.list view.old) last }
-    requires at_least_one { 0 < length (V.list view.old) }
-    ensures same { V.list view.new ≡ V.list view.old }
-    ensures within { result ≤ length (V.list view.old) }
-    ensures at { IsPositionAt (V.list view.old) unix_leap_time result }
-    ensures kept { V.looks view.old ≤ V.looks view.new }
-    ensures at_most { (b : ℕ) → length (V.list view.old) < 2 ^ b
-        → V.looks view.new ≤ V.looks view.old + b }
+    requires rising { IsRising (list_of view.old) }
+    requires last { IsLast (list_of view.old) last }
+    requires at_least_one { 0 < length (list_of view.old) }
+    ensures same { list_of view.new ≡ list_of view.old }
+    ensures within { result ≤ length (list_of view.old) }
+    ensures at { IsPositionAt (list_of view.old) unix_leap_time result }
+    ensures kept { looks_of view.old ≤ looks_of view.new }
+    ensures at_most { (b : ℕ) → length (list_of view.old) < 2 ^ b
+        → looks_of view.new ≤ looks_of view.old + b }
 {
     if last.unix_leap_time() <= unix_leap_time {
         return view.len();
@@ -286,22 +301,22 @@ pub(super) fn position_of<V: Transitions>(
 ///
 /// The last transition is looked at first: if it is reached, no other one is looked at.
 #[inline(always)]
-pub(super) fn position_at<V: Transitions>(
-    view: &mut V,
+pub(super) fn position_at(
+    view: &mut TransitionView<'_>,
     zone: &ZoneData<'_>,
     unix_time: i64,
 ) -> Option<usize>
-    requires view { V.list view.old ≡ (zone_of_data zone.now).transitions }
-    requires at_least_one { 0 < length (V.list view.old) }
-    ensures same { V.list view.new ≡ V.list view.old }
+    requires view { list_of view.old ≡ (zone_of_data zone.now).transitions }
+    requires at_least_one { 0 < length (list_of view.old) }
+    ensures same { list_of view.new ≡ list_of view.old }
     ensures position { MatchOption result
         (IsLeapTimeRefused (zone_of_data zone.now).leap_seconds unix_time)
-        (λ position. (position ≤ length (V.list view.old))
+        (λ position. (position ≤ length (list_of view.old))
         × IsReachedAt (zone_of_data zone.now) unix_time position) }
-    ensures at_least_one { V.next (V.looks view.old) ≤ V.looks view.new }
-    ensures at_most { (b : ℕ) → length (V.list view.old) < 2 ^ b
-        → V.looks view.new ≤ V.looks view.old + (b + 1) }
-    ensures none { IfNone result (V.looks view.new ≤ V.looks view.old + 1) }
+    ensures at_least_one { one_look_more (looks_of view.old) ≤ looks_of view.new }
+    ensures at_most { (b : ℕ) → length (list_of view.old) < 2 ^ b
+        → looks_of view.new ≤ looks_of view.old + (b + 1) }
+    ensures none { IfNone result (looks_of view.new ≤ looks_of view.old + 1) }
 {
     let count = view.len();
     let last = view.look(count - 1);
@@ -323,5 +338,5 @@ pub(super) fn position_in(zone: &ZoneData<'_>, unix_time: i64) -> Option<usize>
     let transitions = zone.transitions;
     let unix_leap_time = leap_time(zone.leap_seconds, unix_time)?;
     let last = transitions[transitions.len() - 1];
-    Some(position_of(&mut Uncounted::new(transitions), last, unix_leap_time))
+    Some(position_of(&mut TransitionView::new(transitions), last, unix_leap_time))
 }

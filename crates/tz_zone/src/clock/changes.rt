@@ -25,7 +25,7 @@ use crate::leap::leap_time::{
     effect_if_reached, effect_of_reached, existing_leap_time, first_begun, last_instant_up_to,
     leap_time,
 };
-use crate::table::Uncounted;
+use crate::table::TransitionView;
 use crate::timezone::zone_data::ZoneData;
 use tz_rule::inner::{change_after, change_up_to};
 use tz_rule::timezone::LocalTimeType;
@@ -112,7 +112,7 @@ fn change_at_next<'a>(
         return None;
     }
     let next = transitions[position];
-    let before = type_before(&mut Uncounted::new(transitions), zone, position);
+    let before = type_before(&mut TransitionView::new(transitions), zone, position);
     let after = type_of(zone, next);
     let change = change_at(next.unix_leap_time(), Some(before), Some(after))?;
     Some((change, position + 1))
@@ -134,7 +134,7 @@ fn following_from<'a>(
     let mut since = unix_time;
     let mut position = position;
     while position < transitions.len() {
-        let before = type_before(&mut Uncounted::new(transitions), zone, position);
+        let before = type_before(&mut TransitionView::new(transitions), zone, position);
         let end = end_of_run(zone, position, before);
         let effect = effect_if_reached(zone.leap_seconds, transitions[end].unix_leap_time())?;
         let next = position_at_effect(zone, end, effect);
@@ -277,7 +277,7 @@ fn first_of_run(zone: &ZoneData<'_>, position: usize) -> usize
     if position == transitions.len() {
         return position;
     }
-    let local_time_type = type_before(&mut Uncounted::new(transitions), zone, position);
+    let local_time_type = type_before(&mut TransitionView::new(transitions), zone, position);
     start_of_run(zone, position, local_time_type)
 }
 
@@ -316,7 +316,7 @@ fn change_at_last<'a>(
     if time == i64::MIN {
         return None;
     }
-    let before = type_before(&mut Uncounted::new(transitions), zone, position - 1);
+    let before = type_before(&mut TransitionView::new(transitions), zone, position - 1);
     let after = type_of(zone, last);
     let change = change_at(time, Some(before), Some(after))?;
     Some((change, position - 1))
@@ -386,7 +386,7 @@ fn preceding_from<'a>(
             return None;
         }
         let earlier = position_before_effect(zone, start - 1, effect)?;
-        let before = type_before(&mut Uncounted::new(zone.transitions), zone, earlier);
+        let before = type_before(&mut TransitionView::new(zone.transitions), zone, earlier);
         let after = type_at(zone, start, effect);
         if let Some(change) = change_at(effect, Some(before), after) {
             return Some((change, earlier));

@@ -3,13 +3,14 @@
 ghost use Rattle.std.specs.Prelude.{◌≡◌, ◌≢◌, ℤ, pos, negsuc, ◌+ℤ◌, ◌≤ℤ◌, MatchOption, ◌+◌, ◌<◌, ◌≤◌, length, slice_get, Some, ℕ, ◌^◌, [], IfOk, IfErr};
 ghost use Rattle.tz_rule.specs.LocalTimeType.{LocalTimeType};
 ghost use Rattle.tz_zone.specs.Clock.{IsTypeAfter, IsTypeAfterTable, IsTypeAt, IsTypeOfLast, IsClock, HasNoType, IsLookupFault};
+ghost use Rattle.tz_zone.specs.Looks.{list_of, looks_of, one_look_more};
 ghost use Rattle.tz_zone.specs.TableChanges.{IsChangeByRule};
 ghost use Rattle.tz_zone.specs.ZoneOfData.{zone_of_data};
 ghost use Rattle.tz_zone.specs.ClockSegments.{IsBefore, IsReachedAt};
 
 use super::binary_search::position_at;
 use super::segment::Segment;
-use crate::table::{Transition, Transitions, Uncounted};
+use crate::table::{Transition, TransitionView};
 use crate::timezone::zone_data::ZoneData;
 use tz_base::error::TzError;
 use tz_rule::timezone::LocalTimeType;
@@ -59,13 +60,13 @@ pub(super) fn type_from_last<'a>(zone: &ZoneData<'a>, unix_time: i64) -> Option<
 
 /// The last transition before a position. If there is none, one at the least leap time, to the
 /// first type.
-pub(super) fn before<V: Transitions>(view: &mut V, position: usize) -> Transition
-    requires { position ≤ length (V.list view.old) }
-    ensures same { V.list view.new ≡ V.list view.old }
-    ensures before { IsBefore (V.list view.old) position result }
-    ensures kept { V.looks view.old ≤ V.looks view.new }
-    ensures at_most { V.looks view.new ≤ V.looks view.old + 1 }
-    ensures first { position ≡ 0 → V.looks view.new ≡ V.looks view.old }
+pub(super) fn before(view: &mut TransitionView<'_>, position: usize) -> Transition
+    requires { position ≤ length (list_of view.old) }
+    ensures same { list_of view.new ≡ list_of view.old }
+    ensures before { IsBefore (list_of view.old) position result }
+    ensures kept { looks_of view.old ≤ looks_of view.new }
+    ensures at_most { looks_of view.new ≤ looks_of view.old + 1 }
+    ensures first { position ≡ 0 → looks_of view.new ≡ looks_of view.old }
 {
     if position == 0 {
         return Transition::new(i64::MIN, 0);
@@ -82,18 +83,18 @@ pub(super) const fn type_of<'a>(zone: &ZoneData<'a>, change: Transition) -> &'a 
 }
 
 /// The type of the last transition before a position, or the first type if there is none.
-pub(super) fn type_before<'a, V: Transitions>(
-    view: &mut V,
+pub(super) fn type_before<'a>(
+    view: &mut TransitionView<'_>,
     zone: &ZoneData<'a>,
     position: usize,
 ) -> &'a LocalTimeType
-    requires view { V.list view.old ≡ (zone_of_data zone.now).transitions }
-    requires position { position ≤ length (V.list view.old) }
-    ensures same { V.list view.new ≡ V.list view.old }
+    requires view { list_of view.old ≡ (zone_of_data zone.now).transitions }
+    requires position { position ≤ length (list_of view.old) }
+    ensures same { list_of view.new ≡ list_of view.old }
     ensures value { IsTypeOfLast (zone_of_data zone.now) position result.now }
-    ensures kept { V.looks view.old ≤ V.looks view.new }
-    ensures at_most { V.looks view.new ≤ V.looks view.old + 1 }
-    ensures first { position ≡ 0 → V.looks view.new ≡ V.looks view.old }
+    ensures kept { looks_of view.old ≤ looks_of view.new }
+    ensures at_most { looks_of view.new ≤ looks_of view.old + 1 }
+    ensures first { position ≡ 0 → looks_of view.new ≡ looks_of view.old }
 {
     let change = before(view, position);
     type_of(zone, change)
@@ -120,7 +121,7 @@ pub(super) fn type_at<'a>(
     if position == transitions.len() {
         return type_from_last(zone, unix_time);
     }
-    Some(type_before(&mut Uncounted::new(transitions), zone, position))
+    Some(type_before(&mut TransitionView::new(transitions), zone, position))
 }
 
 /// Why there is no type from the last transition on, or in a zone without transitions: there is no
@@ -137,21 +138,21 @@ fn fault_after(zone: &ZoneData<'_>) -> TzError
 
 /// The clock's type at an instant. (RFC 8536, section 3.2)
 #[inline(always)]
-pub fn find_local_time_type<'a, V: Transitions>(
-    view: &mut V,
+pub fn find_local_time_type<'a>(
+    view: &mut TransitionView<'_>,
     zone: &ZoneData<'a>,
     unix_time: i64,
 ) -> Result<&'a LocalTimeType, TzError>
-    requires view { V.list view.old ≡ (zone_of_data zone.now).transitions }
-    ensures same { V.list view.new ≡ V.list view.old }
+    requires view { list_of view.old ≡ (zone_of_data zone.now).transitions }
+    ensures same { list_of view.new ≡ list_of view.old }
     ensures ok { IfOk result (λ t. IsClock (zone_of_data zone.now) unix_time t.now) }
     ensures err { IfErr result (IsLookupFault (zone_of_data zone.now) unix_time) }
-    ensures kept { V.looks view.old ≤ V.looks view.new }
-    ensures at_most { (b : ℕ) → length (V.list view.old) < 2 ^ b
-        → V.looks view.new ≤ V.looks view.old + (b + 2) }
-    ensures at_least_one { 0 < length (V.list view.old)
-        → V.next (V.looks view.old) ≤ V.looks view.new }
-    ensures none { V.list view.old ≡ [] → V.looks view.new ≡ V.looks view.old }
+    ensures kept { looks_of view.old ≤ looks_of view.new }
+    ensures at_most { (b : ℕ) → length (list_of view.old) < 2 ^ b
+        → looks_of view.new ≤ looks_of view.old + (b + 2) }
+    ensures at_least_one { 0 < length (list_of view.old)
+        → one_look_more (looks_of view.old) ≤ looks_of view.new }
+    ensures none { list_of view.old ≡ [] → looks_of view.new ≡ looks_of view.old }
 {
     let count = view.len();
     if count > 0 {

@@ -3,6 +3,7 @@
 ghost use Rattle.std.specs.Prelude.{◌≡◌, pos, negsuc, ◌-ℤ◌, ◌<ℤ◌, IfSome, IfNone, MatchOption, ◌≢◌, ◌⊎◌, ℕ, ℤ, ◌+◌, ◌^◌, ◌<◌, ◌≤◌, ◌+ℤ◌, ◌≤ℤ◌, [], length, None, ◌↔◌, IsTrue, option_copied};
 ghost use Rattle.tz_zone.specs.Changes.{Change as ChangeParts, change_of, IsChange};
 ghost use Rattle.tz_zone.specs.Clock.{IsClock, HasNoType, IsTypeAfter};
+ghost use Rattle.tz_zone.specs.Looks.{list_of, looks_of, one_look_more};
 ghost use Rattle.tz_zone.specs.Table.{Zone};
 ghost use Rattle.tz_rule.specs.LocalTimeType.{LocalTimeType};
 ghost use Rattle.tz_zone.specs.LeapTime.{IsBeforeStart, IsPastInstants, IsLeapTimeRefused, IsWideEffect, IsTimeReached};
@@ -17,7 +18,7 @@ use crate::leap::LeapSecond;
 use crate::leap::leap_time::{
     effect_of_reached, first_begun, has_begun, last_before, last_instant, last_instant_up_to,
 };
-use crate::table::{Transition, Transitions};
+use crate::table::{Transition, TransitionView};
 use crate::timezone::zone_data::ZoneData;
 use tz_rule::timezone::LocalTimeType;
 
@@ -218,21 +219,22 @@ fn segment_from_last<'a>(zone: &ZoneData<'a>, last: Transition, unix_time: i64) 
 }
 
 /// The segment around an instant that lies at a position.
-fn segment_at_position<'a, V: Transitions>(
-    view: &mut V,
+#[inline(always)]
+fn segment_at_position<'a>(
+    view: &mut TransitionView<'_>,
     zone: &ZoneData<'a>,
     position: usize,
     unix_time: i64,
 ) -> Segment<'a>
-    requires view { V.list view.old ≡ (zone_of_data zone.now).transitions }
-    requires at_least_one { 0 < length (V.list view.old) }
-    requires within { position ≤ length (V.list view.old) }
+    requires view { list_of view.old ≡ (zone_of_data zone.now).transitions }
+    requires at_least_one { 0 < length (list_of view.old) }
+    requires within { position ≤ length (list_of view.old) }
     requires at { IsReachedAt (zone_of_data zone.now) unix_time position }
-    ensures same { V.list view.new ≡ V.list view.old }
+    ensures same { list_of view.new ≡ list_of view.old }
     ensures at { IsSegmentAt (zone_of_data zone.now) unix_time result }
     ensures ends { HasTableEnds (zone_of_data zone.now) result.from result.last }
-    ensures kept { V.looks view.old ≤ V.looks view.new }
-    ensures at_most { V.looks view.new ≤ V.looks view.old + 2 }
+    ensures kept { looks_of view.old ≤ looks_of view.new }
+    ensures at_most { looks_of view.new ≤ looks_of view.old + 2 }
 {
     let before = before(view, position);
     if position == view.len() {
@@ -247,21 +249,22 @@ fn segment_at_position<'a, V: Transitions>(
 }
 
 /// The segment of the clock around an instant.
-pub fn clock_segment_at<'a, V: Transitions>(
-    view: &mut V,
+#[inline(always)]
+pub fn clock_segment_at<'a>(
+    view: &mut TransitionView<'_>,
     zone: &ZoneData<'a>,
     unix_time: i64,
 ) -> Segment<'a>
-    requires view { V.list view.old ≡ (zone_of_data zone.now).transitions }
-    ensures same { V.list view.new ≡ V.list view.old }
+    requires view { list_of view.old ≡ (zone_of_data zone.now).transitions }
+    ensures same { list_of view.new ≡ list_of view.old }
     ensures at { IsSegmentAt (zone_of_data zone.now) unix_time result }
     ensures ends { HasTableEnds (zone_of_data zone.now) result.from result.last }
-    ensures kept { V.looks view.old ≤ V.looks view.new }
-    ensures at_most { (b : ℕ) → length (V.list view.old) < 2 ^ b
-        → V.looks view.new ≤ V.looks view.old + (b + 3) }
-    ensures at_least_one { 0 < length (V.list view.old)
-        → V.next (V.looks view.old) ≤ V.looks view.new }
-    ensures none { V.list view.old ≡ [] → V.looks view.new ≡ V.looks view.old }
+    ensures kept { looks_of view.old ≤ looks_of view.new }
+    ensures at_most { (b : ℕ) → length (list_of view.old) < 2 ^ b
+        → looks_of view.new ≤ looks_of view.old + (b + 3) }
+    ensures at_least_one { 0 < length (list_of view.old)
+        → one_look_more (looks_of view.old) ≤ looks_of view.new }
+    ensures none { list_of view.old ≡ [] → looks_of view.new ≡ looks_of view.old }
 {
     if view.len() == 0 {
         return after_table(zone, true, unix_time);

@@ -3,6 +3,7 @@
 ghost use Rattle.std.specs.Prelude.{◌≡◌, ◌⊎◌, ℕ, ℤ, pos, ◌+◌, ◌+ℤ◌, ◌^◌, ◌<◌, ◌≤◌, ◌≤ℤ◌, ◌<ℤ◌, [], length, IfSome, MatchOption, ◌≢◌, ◌==◌, Some};
 ghost use Rattle.tz_zone.specs.Clock.{IsClock, HasNoType, IsPositionAt, IsTypeAfterTable};
 ghost use Rattle.tz_zone.specs.ClockSpans.{IsStage};
+ghost use Rattle.tz_zone.specs.Looks.{list_of, looks_of, one_look_more};
 ghost use Rattle.tz_zone.specs.TableChanges.{IsChangeByRule};
 ghost use Rattle.tz_zone.specs.WindowTypes.{IsPositionOf, AreTypesIn, IfMore};
 ghost use Rattle.tz_zone.specs.ZoneOfData.{zone_of_data};
@@ -11,7 +12,7 @@ ghost use Rattle.tz_zone.specs.LeapTime.{IsLeapTime};
 use super::binary_search::{position_at, position_of};
 use super::lookup::{after_table, type_before, type_of};
 use crate::leap::leap_time::{effect_of_reached, first_begun, last_before, leap_time, stay_before};
-use crate::table::Transitions;
+use crate::table::TransitionView;
 use crate::timezone::zone_data::ZoneData;
 use tz_rule::timezone::LocalTimeType;
 
@@ -41,26 +42,26 @@ pub struct Span<'a> {
 /// The first instant from `unix_time` on that has a leap time, and the stage of a walk that begins
 /// there. `position` is that of `unix_time`, or `None` if there are transitions and it has no leap
 /// time. In a zone without transitions the first instant is `unix_time` itself.
-pub fn first_stage<'a, V: Transitions>(
-    view: &mut V,
+pub fn first_stage<'a>(
+    view: &mut TransitionView<'_>,
     zone: &ZoneData<'a>,
     position: Option<usize>,
     unix_time: i64,
 ) -> Option<(i64, Stage<'a>)>
-    requires view { V.list view.old ≡ (zone_of_data zone.now).transitions }
+    requires view { list_of view.old ≡ (zone_of_data zone.now).transitions }
     requires position { IsPositionOf (zone_of_data zone.now) unix_time position }
-    ensures same { V.list view.new ≡ V.list view.old }
+    ensures same { list_of view.new ≡ list_of view.old }
     ensures stage { MatchOption result
         ((v : ℤ) → unix_time ≤ℤ v → v ≤ℤ pos 9223372036854775807
         → HasNoType (zone_of_data zone.now) v)
         (λ found. (unix_time ≤ℤ found.0)
         × IsStage (zone_of_data zone.now) found.0 found.0 found.1
         × ((v : ℤ) → unix_time ≤ℤ v → v <ℤ found.0 → HasNoType (zone_of_data zone.now) v)) }
-    ensures kept { V.looks view.old ≤ V.looks view.new }
-    ensures at_most { (b : ℕ) → length (V.list view.old) < 2 ^ b
-        → V.looks view.new ≤ V.looks view.old + (b + 2) }
-    ensures known { IfSome position (λ k. V.looks view.new ≤ V.looks view.old + 1) }
-    ensures none { V.list view.old ≡ [] → V.looks view.new ≡ V.looks view.old }
+    ensures kept { looks_of view.old ≤ looks_of view.new }
+    ensures at_most { (b : ℕ) → length (list_of view.old) < 2 ^ b
+        → looks_of view.new ≤ looks_of view.old + (b + 2) }
+    ensures known { IfSome position (λ k. looks_of view.new ≤ looks_of view.old + 1) }
+    ensures none { list_of view.old ≡ [] → looks_of view.new ≡ looks_of view.old }
 {
     if let Some(position) = position {
         let local_time_type = type_before(view, zone, position);
@@ -86,17 +87,17 @@ pub fn first_stage<'a, V: Transitions>(
 
 /// The span of a clock from where a walk has come to, up to `high` at most. `high` is not above
 /// `ALWAYS_DEFINED_UP_TO`, so every instant from `since` to it has a leap time.
-pub fn span_from<'a, V: Transitions>(
-    view: &mut V,
+pub fn span_from<'a>(
+    view: &mut TransitionView<'_>,
     zone: &ZoneData<'a>,
     stage: Stage<'a>,
     since: i64,
     high: i64,
 ) -> Span<'a>
-    requires view { V.list view.old ≡ (zone_of_data zone.now).transitions }
+    requires view { list_of view.old ≡ (zone_of_data zone.now).transitions }
     requires stage { (first : ℤ) × IsStage (zone_of_data zone.now) first since stage }
     requires window { (since ≤ℤ high) × (high ≤ℤ pos 80000000000000000) }
-    ensures same { V.list view.new ≡ V.list view.old }
+    ensures same { list_of view.new ≡ list_of view.old }
     ensures up_to { result.last ≤ℤ high }
     ensures holds { (v : ℤ) → since ≤ℤ v → v ≤ℤ result.last
         → MatchOption result.local_time_type (HasNoType (zone_of_data zone.now) v)
@@ -106,11 +107,11 @@ pub fn span_from<'a, V: Transitions>(
         → IsStage (zone_of_data zone.now) first from result.next }
     ensures onward { ((result.next.position ≡ stage.entry.position) × (since ≤ℤ result.last))
         ⊎ (result.next.position ≡ stage.entry.position + 1) }
-    ensures within { result.next.position ≤ length (V.list view.old) }
-    ensures whole { stage.entry.position ≡ length (V.list view.old) → (result.last ≡ high)
+    ensures within { result.next.position ≤ length (list_of view.old) }
+    ensures whole { stage.entry.position ≡ length (list_of view.old) → (result.last ≡ high)
         ⊎ IsChangeByRule (zone_of_data zone.now).extra_rule (result.last +ℤ pos 1) }
-    ensures kept { V.looks view.old ≤ V.looks view.new }
-    ensures at_most { V.looks view.new + stage.entry.position ≤ V.looks view.old
+    ensures kept { looks_of view.old ≤ looks_of view.new }
+    ensures at_most { looks_of view.new + stage.entry.position ≤ looks_of view.old
         + result.next.position }
 {
     let count = view.len();
@@ -198,24 +199,24 @@ fn types_after_table<'a>(zone: ZoneData<'a>, count: usize, low: i64, high: i64) 
 /// The types in a window that begins at a position before the last transition, whose first instant
 /// has a leap time.
 #[inline(always)]
-fn types_at_position<'a, V: Transitions>(
-    view: &mut V,
+fn types_at_position<'a>(
+    view: &mut TransitionView<'_>,
     zone: ZoneData<'a>,
     position: usize,
     low: i64,
     low_leap_time: i64,
     high: i64,
 ) -> WindowTypes<'a>
-    requires view { V.list view.old ≡ (zone_of_data zone).transitions }
-    requires position { position < length (V.list view.old) }
+    requires view { list_of view.old ≡ (zone_of_data zone).transitions }
+    requires position { position < length (list_of view.old) }
     requires leap { IsLeapTime (zone_of_data zone).leap_seconds low low_leap_time }
-    requires at { IsPositionAt (V.list view.old) low_leap_time position }
-    ensures same { V.list view.new ≡ V.list view.old }
+    requires at { IsPositionAt (list_of view.old) low_leap_time position }
+    ensures same { list_of view.new ≡ list_of view.old }
     ensures types { AreTypesIn (IsClock (zone_of_data zone.entry)) low high result }
-    ensures kept { V.looks view.old ≤ V.looks view.new }
-    ensures at_most { V.looks view.new ≤ V.looks view.old + 3 }
+    ensures kept { looks_of view.old ≤ looks_of view.new }
+    ensures at_most { looks_of view.new ≤ looks_of view.old + 3 }
     ensures more { IfMore result (λ from. (from ≡ Some position)
-        × (V.looks view.new ≤ V.looks view.old + 2)) }
+        × (looks_of view.new ≤ looks_of view.old + 2)) }
 {
     let leap_seconds = zone.leap_seconds;
     let count = view.len();
@@ -259,26 +260,26 @@ fn types_at_position<'a, V: Transitions>(
 /// transitions that come next, or by the rule; but not two if the last transition lies in the
 /// window. Otherwise the answer is `More`.
 #[inline(always)]
-pub fn window_types<'a, V: Transitions>(
-    view: &mut V,
+pub fn window_types<'a>(
+    view: &mut TransitionView<'_>,
     zone: ZoneData<'a>,
     low: i64,
     high: i64,
 ) -> WindowTypes<'a>
-    requires view { V.list view.old ≡ (zone_of_data zone).transitions }
-    ensures same { V.list view.new ≡ V.list view.old }
+    requires view { list_of view.old ≡ (zone_of_data zone).transitions }
+    ensures same { list_of view.new ≡ list_of view.old }
     ensures types { AreTypesIn (IsClock (zone_of_data zone.entry)) low high result }
-    ensures kept { V.looks view.old ≤ V.looks view.new }
-    ensures at_most { (b : ℕ) → length (V.list view.old) < 2 ^ b
-        → V.looks view.new ≤ V.looks view.old + (b + 4) }
+    ensures kept { looks_of view.old ≤ looks_of view.new }
+    ensures at_most { (b : ℕ) → length (list_of view.old) < 2 ^ b
+        → looks_of view.new ≤ looks_of view.old + (b + 4) }
     ensures position { IfMore result (IsPositionOf (zone_of_data zone.entry) low) }
     ensures more { IfMore result (λ position. MatchOption position
-        (V.looks view.new ≤ V.looks view.old + 1)
-        (λ k. (b : ℕ) → length (V.list view.old) < 2 ^ b
-        → V.looks view.new ≤ V.looks view.old + (b + 3))) }
-    ensures at_least_one { 0 < length (V.list view.old)
-        → V.next (V.looks view.old) ≤ V.looks view.new }
-    ensures none { V.list view.old ≡ [] → V.looks view.new ≡ V.looks view.old }
+        (looks_of view.new ≤ looks_of view.old + 1)
+        (λ k. (b : ℕ) → length (list_of view.old) < 2 ^ b
+        → looks_of view.new ≤ looks_of view.old + (b + 3))) }
+    ensures at_least_one { 0 < length (list_of view.old)
+        → one_look_more (looks_of view.old) ≤ looks_of view.new }
+    ensures none { list_of view.old ≡ [] → looks_of view.new ≡ looks_of view.old }
 {
     let count = view.len();
     if count > 0 {

@@ -1,140 +1,114 @@
-//! A zone's transitions as a function may read them: one at a time. Each read is a look, which may
-//! be counted.
+//! A zone's transitions as a function may read them: one at a time. Each read is a look, which is
+//! counted.
 
-ghost use Rattle.std.specs.Prelude.{◌≡◌, ℕ, ◌+◌, ◌<◌, ◌≤◌, length, slice_get, Some, IsFalse, refl};
+ghost use Rattle.std.specs.Prelude.{◌≡◌, ◌+◌, ◌<◌, ◌≤◌, ◌^◌, length, slice_get, Some, IsTrue, true, false};
+ghost use Rattle.tz_zone.specs.Looks.{list_of, looks_of, may_guess_of, one_look_more};
 
 use super::Transition;
 
-/// A view of transitions.
+/// A view of transitions, which counts the looks at them.
 ///
-/// A function that is generic over its view can take looks and nothing else: it has no slice, and
-/// can neither copy the view nor set its count back.
-pub trait Transitions {
-    ghost use Rattle.std.specs.Prelude.{List};
-    ghost use Rattle.tz_zone.specs.Table.{Transition};
-
-    /// The transitions, in order.
-    ghost list: { Self → List Transition };
-
-    /// The number of looks so far.
-    ghost looks: { Self → ℕ };
-
-    /// The number of looks after one more.
-    ghost next: { ℕ → ℕ };
-
-    /// The number of transitions.
-    fn len(&self) -> usize
-        ensures { result ≡ length (list self.now) };
-
-    /// A look: the transition at an index.
-    fn look(&mut self, index: usize) -> Transition
-        requires { index < length (list self.old) }
-        ensures value { slice_get (list self.old) index ≡ Some result }
-        ensures same { list self.new ≡ list self.old }
-        ensures counted { looks self.new ≡ next (looks self.old) };
-
-    /// Whether looks are counted. If it is false, looks beyond a function's bound change no count.
-    fn is_counted(&self) -> bool
-        ensures { IsFalse result → (n : ℕ) → next n ≡ n };
-
-    /// A look takes none back.
-    ghost no_less: { (n : ℕ) → n ≤ next n };
-
-    /// A look counts once at most.
-    ghost one_more: { (n : ℕ) → next n ≤ n + 1 };
-}
-
-/// Transitions whose looks are counted. The count stays at `u64::MAX` once it is there.
-#[derive(Drop)]
-pub struct Counted<'a> {
+/// A function that has its view by `&mut` can take looks and nothing else: it has no slice, and can
+/// not set the count back. The count stays at `u64::MAX` once it is there.
+#[derive(Clone, Copy)]
+pub struct TransitionView<'a> {
     transitions: &'a [Transition],
     looks: u64,
+    may_guess: bool,
 }
 
-impl<'a> Counted<'a> {
-    /// The view of these transitions, at which no look has been taken.
-    pub fn new(transitions: &'a [Transition]) -> Self
-        ensures list { ⟦<Counted<'a> as Transitions>⟧.list result ≡ transitions.now }
-        ensures looks { ⟦<Counted<'a> as Transitions>⟧.looks result ≡ 0 }
+impl<'a> TransitionView<'a> {
+    /// The view of these transitions for a caller that wants no count: a position may be guessed,
+    /// by reads that are not counted.
+    pub const fn new(transitions: &'a [Transition]) -> Self
+        ensures list { list_of result ≡ transitions.now }
+        ensures guess { may_guess_of result ≡ true }
     {
-        Counted {
+        TransitionView {
             transitions,
             looks: 0,
+            may_guess: true,
+        }
+    }
+
+    /// The view of these transitions for a caller that wants the count: each read is a look.
+    pub const fn counted(transitions: &'a [Transition]) -> Self
+        ensures list { list_of result ≡ transitions.now }
+        ensures looks { looks_of result ≡ 0 }
+        ensures guess { may_guess_of result ≡ false }
+    {
+        TransitionView {
+            transitions,
+            looks: 0,
+            may_guess: false,
         }
     }
 
     /// The number of looks so far.
-    pub fn looks(&self) -> u64
-        ensures { result ≡ ⟦<Counted<'a> as Transitions>⟧.looks self.now }
+    pub const fn looks(&self) -> u64
+        ensures { result ≡ looks_of self.now }
     {
         self.looks
     }
-}
 
-impl Transitions for Counted<'_> {
-    ghost use Rattle.tz_zone.specs.Looks.{one_look_more, one_look_more-no_less, one_look_more-one_more};
-
-    ghost list = { λ view. view.transitions.now };
-
-    ghost looks = { λ view. view.looks };
-
-    ghost next = { one_look_more };
-
-    fn len(&self) -> usize {
+    /// The number of transitions.
+    pub const fn len(&self) -> usize
+        ensures { result ≡ length (list_of self.now) }
+    {
         self.transitions.len()
     }
 
-    fn look(&mut self, index: usize) -> Transition {
+    /// A look: the transition at an index.
+    pub fn look(&mut self, index: usize) -> Transition
+        requires { index < length (list_of self.old) }
+        ensures value { slice_get (list_of self.old) index ≡ Some result }
+        ensures same { list_of self.new ≡ list_of self.old }
+        ensures counted { looks_of self.new ≡ one_look_more (looks_of self.old) }
+        ensures kept { looks_of self.old ≤ looks_of self.new }
+        ensures at_most { looks_of self.new ≤ looks_of self.old + 1 }
+    {
         self.looks = self.looks.saturating_add(1);
         self.transitions[index]
     }
 
-    fn is_counted(&self) -> bool {
-        true
-    }
-
-    ghost no_less = { one_look_more-no_less };
-
-    ghost one_more = { one_look_more-one_more };
-}
-
-/// Transitions whose looks are not counted.
-#[derive(Drop)]
-pub struct Uncounted<'a> {
-    transitions: &'a [Transition],
-}
-
-impl<'a> Uncounted<'a> {
-    /// The view of these transitions.
-    pub fn new(transitions: &'a [Transition]) -> Self
-        ensures { ⟦<Uncounted<'a> as Transitions>⟧.list result ≡ transitions.now }
+    /// A view of the same transitions, at which no look has been taken.
+    pub const fn fresh(&self) -> Self
+        ensures list { list_of result ≡ list_of self.now }
+        ensures looks { looks_of result ≡ 0 }
+        ensures guess { may_guess_of result ≡ may_guess_of self.now }
     {
-        Uncounted { transitions }
-    }
-}
-
-impl Transitions for Uncounted<'_> {
-    ghost use Rattle.tz_zone.specs.Looks.{same_looks-no_less, same_looks-one_more};
-
-    ghost list = { λ view. view.transitions.now };
-
-    ghost looks = { λ view. 0 };
-
-    ghost next = { λ n. n };
-
-    fn len(&self) -> usize {
-        self.transitions.len()
+        TransitionView {
+            transitions: self.transitions,
+            looks: 0,
+            may_guess: self.may_guess,
+        }
     }
 
-    fn look(&mut self, index: usize) -> Transition {
+    /// Counts the looks at a view that [`TransitionView::fresh`] returned.
+    pub fn add_looks(&mut self, looks: u64)
+        ensures same { list_of self.new ≡ list_of self.old }
+        ensures sum { looks_of self.old + looks < 2 ^ 64
+            → looks_of self.new ≡ looks_of self.old + looks }
+        ensures kept { looks_of self.old ≤ looks_of self.new }
+        ensures at_most { looks_of self.new ≤ looks_of self.old + looks }
+        ensures none { looks ≡ 0 → looks_of self.new ≡ looks_of self.old }
+    {
+        self.looks = self.looks.saturating_add(looks);
+    }
+
+    /// Whether a position may be guessed.
+    pub const fn may_guess(&self) -> bool
+        ensures { result ≡ may_guess_of self.now }
+    {
+        self.may_guess
+    }
+
+    /// The transition at an index, for a guess. No look is counted.
+    pub const fn guessed_at(&self, index: usize) -> Transition
+        requires guess { IsTrue (may_guess_of self.now) }
+        requires within { index < length (list_of self.now) }
+        ensures { slice_get (list_of self.now) index ≡ Some result }
+    {
         self.transitions[index]
     }
-
-    fn is_counted(&self) -> bool {
-        false
-    }
-
-    ghost no_less = { same_looks-no_less };
-
-    ghost one_more = { same_looks-one_more };
 }

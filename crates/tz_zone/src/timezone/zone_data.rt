@@ -9,7 +9,7 @@ ghost use Rattle.tz_zone.specs.LentRules.{lent_rule, rule_of_source, rule_of_lis
 use super::zone_checks::{check_parts, offset_range};
 use super::{Change, LeapSecond, LocalTimeType, Segment, Transition, TransitionRule};
 use crate::clock::{self, find_following, find_preceding};
-use crate::table::Uncounted;
+use crate::table::TransitionView;
 use tz_base::error::TzError;
 use tz_rule::inner::{AlternateData, RuleRef};
 
@@ -191,7 +191,7 @@ impl<'a> ZoneData<'a> {
         ensures ok { IfOk result (λ t. IsClock (zone_of_data self.now) unix_time t.now) }
         ensures err { IfErr result (IsLookupFault (zone_of_data self.now) unix_time) }
     {
-        let mut view = Uncounted::new(self.transitions);
+        let mut view = TransitionView::new(self.transitions);
         clock::find_local_time_type(&mut view, self, unix_time)
     }
 
@@ -203,7 +203,7 @@ impl<'a> ZoneData<'a> {
         ensures ends { HasTableEnds (zone_of_data self.now) (segment_of result).from
             (segment_of result).last }
     {
-        let mut view = Uncounted::new(self.transitions);
+        let mut view = TransitionView::new(self.transitions);
         clock::clock_segment_at(&mut view, self, unix_time)
     }
 

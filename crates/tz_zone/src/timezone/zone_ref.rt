@@ -7,7 +7,7 @@ use super::zone_data::{RuleSource, ZoneData};
 use super::{LeapSecond, LocalTimeType, Transition, TransitionRule};
 use crate::clock;
 use crate::leap::table_checks::expiry;
-use crate::table::Counted;
+use crate::table::TransitionView;
 use std::fmt;
 use tz_base::error::TzError;
 
@@ -238,7 +238,7 @@ impl<'a> TimeZoneRef<'a> {
         ensures at_least_one { 0 < length (zone_of self.now).transitions → 1 ≤ result.1 }
         ensures none { (zone_of self.now).transitions ≡ [] → result.1 ≡ 0 }
     {
-        let mut view = Counted::new(self.plain.transitions);
+        let mut view = TransitionView::counted(self.plain.transitions);
         let answer = clock::find_local_time_type(&mut view, &self.plain, unix_time);
         (answer, view.looks())
     }

@@ -50,7 +50,7 @@ fn expect_counted(
     let slots = buf.len();
     let (year, month, month_day, hour, minute, second) = reading;
     let (list, looks) =
-        kit::find_n_counted(buf, year, month, month_day, hour, minute, second, 0, zone)?;
+        DateTime::find_n_counted(buf, year, month, month_day, hour, minute, second, 0, zone)?;
     let counts = (list.count(), list.data().len());
     expect_eq(rt, &counts, &(expected.len(), slots.min(expected.len())));
     for (slot, entry) in list.data().iter().zip(expected.iter()) {

@@ -5,7 +5,7 @@ use crate::erased::tz_zone_tests::clocks::three_types;
 use crate::erased::tz_zone_tests::expect::expect_eq_at;
 use crate::kit::process::Abort;
 use crate::kit::test::Fail;
-use crate::kit::{self, NotCounted, Vec};
+use crate::kit::{self, Vec};
 use tz::proved::tz_base::error::TzError;
 use tz::proved::tz_zone::timezone::{LeapSecond, LocalTimeType, TimeZoneRef, Transition};
 use tz::shim::alloc::{AllocError, Allocator, Global};
@@ -67,7 +67,7 @@ fn expect_type(
 ) {
     let found = zone.find_local_time_type(unix_time).ok();
     expect_eq_at(rt, &unix_time, &found, &wanted);
-    let counted = zone.find_local_time_type_not_counted(unix_time).0.ok();
+    let counted = zone.find_local_time_type_counted(unix_time).0.ok();
     expect_eq_at(rt, &unix_time, &counted, &wanted);
 }
 

@@ -9,7 +9,7 @@ pub use crate::proved::tz_zone::leap::leap_time::{effect, leap};
 pub use crate::proved::tz_zone::parse::after_byte;
 pub use crate::proved::tz_zone::parse::tz_file::{FileSizes, file_sizes};
 pub use crate::proved::tz_zone::parse::tz_string::{DEFAULT_HOUR, DEFAULT_SAVING, parse_posix_tz};
-pub use crate::proved::tz_zone::table::Uncounted;
+pub use crate::proved::tz_zone::table::TransitionView;
 use crate::proved::tz_zone::timezone::TimeZoneRef;
 #[cfg(feature = "std")]
 pub use crate::proved::tz_zone::timezone::files::{open_fault, read_to_end};

@@ -3,7 +3,7 @@
 
 mod transition_view;
 
-pub use transition_view::Uncounted;
+pub use transition_view::TransitionView;
 
 /// A leap time from which on a local time type holds.
 #[repr(C)]

@@ -156,7 +156,8 @@ fn expect_out_of_range_in(
     assert!(are_untouched_or_listed(slots, listed));
     let (year, month, month_day, hour, minute, second) = reading;
     let refused =
-        kit::find_n_counted(slots, year, month, month_day, hour, minute, second, 0, zone).err();
+        DateTime::find_n_counted(slots, year, month, month_day, hour, minute, second, 0, zone)
+            .err();
     assert!(matches!(refused, Some(TzError::OutOfRange)));
     assert!(are_untouched_or_listed(slots, listed));
 }

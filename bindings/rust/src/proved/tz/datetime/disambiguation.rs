@@ -8,7 +8,7 @@ use super::zone_data_searches::from_timespec;
 use super::{DateTime, UtcDateTime};
 use crate::proved::tz_base::error::TzError;
 use crate::proved::tz_base::fields::{Fields, local_reading};
-use crate::proved::tz_zone::inner::{Uncounted, WindowTypes, ZoneData, plain};
+use crate::proved::tz_zone::inner::{TransitionView, WindowTypes, ZoneData, plain};
 use crate::proved::tz_zone::timezone::{LocalTimeType, TimeZoneRef};
 
 /// An entry of a reading.
@@ -161,7 +161,7 @@ fn ends_by_walk<'a>(
     high: i64,
 ) -> Result<Ends<'a>, TzError> {
     let mut ends = Ends::none();
-    let mut view = Uncounted::new(zone.transitions());
+    let mut view = TransitionView::new(zone.transitions());
     give_in_window(&mut ends, reading, &mut view, zone, types, low, high)?;
     Ok(ends)
 }
@@ -182,7 +182,7 @@ pub fn ends_by_types<'a>(
         return ends_by_walk(reading, *zone, types, low, high);
     }
     let mut ends = Ends::none();
-    let mut view = Uncounted::new(zone.transitions());
+    let mut view = TransitionView::new(zone.transitions());
     give_in_window(&mut ends, reading, &mut view, *zone, types, low, high)?;
     Ok(ends)
 }

@@ -8,7 +8,7 @@ use super::gaps_and_folds::search;
 use super::{DateTime, FoundDateTimeKind, FoundDateTimeListRefMut, UtcDateTime};
 use crate::proved::tz_base::error::TzError;
 use crate::proved::tz_base::fields::Fields;
-use crate::proved::tz_zone::inner::{Uncounted, ZoneData, plain};
+use crate::proved::tz_zone::inner::{TransitionView, ZoneData, plain};
 use crate::proved::tz_zone::timezone::TimeZoneRef;
 use crate::shim::alloc::Allocator;
 
@@ -26,7 +26,7 @@ pub fn find_fields<A: Allocator + Copy>(
     zone: &ZoneData<'_>,
 ) -> Result<FoundDateTimeList<A>, TzError> {
     let mut list = FoundDateTimeList::new_in(alloc);
-    let mut view = Uncounted::new(zone.transitions());
+    let mut view = TransitionView::new(zone.transitions());
     find_in(&mut list, fields, &mut view, zone)?;
     Ok(list)
 }
@@ -36,7 +36,7 @@ pub fn find_fields<A: Allocator + Copy>(
 pub(super) fn find_in<L: DateTimeList>(
     list: &mut L,
     fields: &Fields,
-    view: &mut Uncounted<'_>,
+    view: &mut TransitionView<'_>,
     zone: &ZoneData<'_>,
 ) -> Result<(), TzError> {
     // For the proof, which bounds the entries by these offsets.
@@ -107,9 +107,47 @@ impl DateTime {
         local: UtcDateTime,
         time_zone_ref: TimeZoneRef<'_>,
     ) -> Result<FoundDateTimeListRefMut<'a>, TzError> {
-        let mut view = Uncounted::new(time_zone_ref.transitions());
+        let mut view = TransitionView::new(time_zone_ref.transitions());
         match DateTime::listed_in(buf, local.fields(), &mut view, &plain(&time_zone_ref)) {
             Ok(list) => Ok(list),
+            Err(refused) => Err(refused.fault),
+        }
+    }
+
+    /// What [`DateTime::find_n`] returns, and how many transitions were read.
+    ///
+    /// If a zone has n transitions, of which w take effect in the window of the local time (from
+    /// the local time less the zone's greatest offset to the local time less its least one), a
+    /// search reads at most 2 b + w + 4, where b is the number of binary digits of n. The count
+    /// saturates at `u64::MAX`.
+    ///
+    /// # Errors
+    ///
+    /// Those of [`DateTime::find_n`].
+    pub fn find_n_counted<'a>(
+        buf: &'a mut [Option<FoundDateTimeKind>],
+        year: i32,
+        month: u8,
+        month_day: u8,
+        hour: u8,
+        minute: u8,
+        second: u8,
+        nanoseconds: u32,
+        time_zone_ref: TimeZoneRef<'_>,
+    ) -> Result<(FoundDateTimeListRefMut<'a>, u64), TzError> {
+        // A call and a match: the proof of `untouched` follows these statements.
+        match DateTime::listed_counted(
+            buf,
+            year,
+            month,
+            month_day,
+            hour,
+            minute,
+            second,
+            nanoseconds,
+            time_zone_ref,
+        ) {
+            Ok(counted) => Ok(counted),
             Err(refused) => Err(refused.fault),
         }
     }
@@ -127,8 +165,26 @@ impl DateTime {
         time_zone_ref: TimeZoneRef<'_>,
     ) -> Result<FoundDateTimeListRefMut<'a>, Refused<'a>> {
         let fields = Fields::new(year, month, month_day, hour, minute, second, nanoseconds);
-        let mut view = Uncounted::new(time_zone_ref.transitions());
+        let mut view = TransitionView::new(time_zone_ref.transitions());
         DateTime::listed_in(buf, &fields, &mut view, &plain(&time_zone_ref))
+    }
+
+    /// What [`DateTime::find_n_counted`] returns, or the buffer and the error.
+    fn listed_counted<'a>(
+        buf: &'a mut [Option<FoundDateTimeKind>],
+        year: i32,
+        month: u8,
+        month_day: u8,
+        hour: u8,
+        minute: u8,
+        second: u8,
+        nanoseconds: u32,
+        time_zone_ref: TimeZoneRef<'_>,
+    ) -> Result<(FoundDateTimeListRefMut<'a>, u64), Refused<'a>> {
+        let fields = Fields::new(year, month, month_day, hour, minute, second, nanoseconds);
+        let mut view = TransitionView::counted(time_zone_ref.transitions());
+        let list = DateTime::listed_in(buf, &fields, &mut view, &plain(&time_zone_ref))?;
+        Ok((list, view.looks()))
     }
 
     /// What [`DateTime::find_n`] returns for the fields, through a view of the zone's transitions,
@@ -136,7 +192,7 @@ impl DateTime {
     fn listed_in<'a>(
         buf: &'a mut [Option<FoundDateTimeKind>],
         fields: &Fields,
-        view: &mut Uncounted<'_>,
+        view: &mut TransitionView<'_>,
         zone: &ZoneData<'_>,
     ) -> Result<FoundDateTimeListRefMut<'a>, Refused<'a>> {
         let mut writer = SlotWriter::new(buf, 0);

@@ -7,7 +7,7 @@ use super::entry_takers::{DateTimeList, Dated, EntryTaker};
 use crate::proved::tz_base::error::TzError;
 use crate::proved::tz_base::fields::Fields;
 use crate::proved::tz_zone::inner::{
-    Uncounted, WindowTypes, ZoneData, first_stage, span_from, window_types,
+    TransitionView, WindowTypes, ZoneData, first_stage, span_from, window_types,
 };
 use crate::proved::tz_zone::timezone::LocalTimeType;
 
@@ -86,7 +86,7 @@ fn give_around<'a, E: EntryTaker<'a>>(
 fn walk<'a, E: EntryTaker<'a>>(
     entries: &mut E,
     reading: i64,
-    view: &mut Uncounted<'_>,
+    view: &mut TransitionView<'_>,
     zone: ZoneData<'a>,
     position: Option<usize>,
     low: i64,
@@ -120,7 +120,7 @@ fn walk<'a, E: EntryTaker<'a>>(
 pub(super) fn give_in_window<'a, E: EntryTaker<'a>>(
     entries: &mut E,
     reading: i64,
-    view: &mut Uncounted<'_>,
+    view: &mut TransitionView<'_>,
     zone: ZoneData<'a>,
     types: WindowTypes<'a>,
     low: i64,
@@ -137,7 +137,14 @@ pub(super) fn give_in_window<'a, E: EntryTaker<'a>>(
             before,
             after,
         } => give_around(entries, reading, unix_time, before, after),
-        WindowTypes::More(position) => walk(entries, reading, view, zone, position, low, high),
+        WindowTypes::More(position) => {
+            // A view of its own, so that without a walk the caller's need not be in memory, and its
+            // count is not computed where nobody asks for it.
+            let mut rest = view.fresh();
+            let answer = walk(entries, reading, &mut rest, zone, position, low, high);
+            view.add_looks(rest.looks());
+            answer
+        }
     }
 }
 
@@ -146,7 +153,7 @@ pub(super) fn give_in_window<'a, E: EntryTaker<'a>>(
 fn search_window<'a, E: EntryTaker<'a>>(
     entries: &mut E,
     reading: i64,
-    view: &mut Uncounted<'_>,
+    view: &mut TransitionView<'_>,
     zone: ZoneData<'a>,
     low: i64,
     high: i64,
@@ -174,7 +181,7 @@ pub fn window_of(zone: &ZoneData<'_>, reading: i64) -> (i64, i64) {
 #[inline(always)]
 #[must_use]
 pub const fn types_of_window<'a>(zone: &ZoneData<'a>, low: i64, high: i64) -> WindowTypes<'a> {
-    let mut view = Uncounted::new(zone.transitions());
+    let mut view = TransitionView::new(zone.transitions());
     window_types(&mut view, *zone, low, high)
 }
 
@@ -182,7 +189,7 @@ pub const fn types_of_window<'a>(zone: &ZoneData<'a>, low: i64, high: i64) -> Wi
 pub(super) fn search<L: DateTimeList>(
     list: &mut L,
     fields: &Fields,
-    view: &mut Uncounted<'_>,
+    view: &mut TransitionView<'_>,
     zone: &ZoneData<'_>,
 ) -> Result<(), TzError> {
     let reading = fields.reading();

@@ -9,7 +9,7 @@ use super::{DateTime, Disambiguation};
 use crate::proved::tz_base::constants::NANOSECONDS_PER_SECOND;
 use crate::proved::tz_base::error::{DateTimeError, TzError};
 use crate::proved::tz_base::fields::Fields;
-use crate::proved::tz_zone::inner::{Uncounted, ZoneData};
+use crate::proved::tz_zone::inner::{TransitionView, ZoneData};
 
 /// What the zone's clock shows at a Unix time, as [`DateTime::from_timespec`] answers it.
 #[inline(always)]
@@ -58,7 +58,7 @@ pub fn find_into(
     fields.check()?;
     check_entries(fields, zone)?;
     let mut writer = SlotWriter::new(slots, skip);
-    let mut view = Uncounted::new(zone.transitions());
+    let mut view = TransitionView::new(zone.transitions());
     search(&mut writer, fields, &mut view, zone)?;
     Ok(writer.count)
 }

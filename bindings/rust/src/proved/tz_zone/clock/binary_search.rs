@@ -3,7 +3,7 @@
 //! a binary search.
 
 use crate::proved::tz_zone::leap::leap_time::leap_time;
-use crate::proved::tz_zone::table::{Transition, Uncounted};
+use crate::proved::tz_zone::table::{Transition, TransitionView};
 use crate::proved::tz_zone::timezone::zone_data::ZoneData;
 
 /// How many positions the last seven looks of a halving choose from.
@@ -27,7 +27,7 @@ const fn power_up_to(number: usize) -> usize {
 /// earlier one.
 #[inline(always)]
 const fn position_after_look(
-    view: &mut Uncounted<'_>,
+    view: &mut TransitionView<'_>,
     position: usize,
     later: usize,
     unix_leap_time: i64,
@@ -42,7 +42,7 @@ const fn position_after_look(
 /// Of twice `count` positions from `position` on, the first of the `count` among which the leap
 /// time's position is, by a look at the transition in the middle.
 const fn half(
-    view: &mut Uncounted<'_>,
+    view: &mut TransitionView<'_>,
     position: usize,
     count: usize,
     unix_leap_time: i64,
@@ -58,7 +58,7 @@ const fn half(
 /// A step compares once, and changes `position` by that alone; no step needs a branch of its own.
 #[inline(always)]
 const fn halved(
-    view: &mut Uncounted<'_>,
+    view: &mut TransitionView<'_>,
     position: usize,
     count: usize,
     least: usize,
@@ -77,7 +77,7 @@ const fn halved(
 /// takes five instructions and no branch.
 #[inline(always)]
 const fn position_in_block(
-    view: &mut Uncounted<'_>,
+    view: &mut TransitionView<'_>,
     position: usize,
     unix_leap_time: i64,
 ) -> usize {
@@ -94,7 +94,7 @@ const fn position_in_block(
 ///
 /// After the first look the number of positions to choose from is a power of two.
 #[inline(always)]
-const fn position_by_halving(view: &mut Uncounted<'_>, unix_leap_time: i64) -> usize {
+const fn position_by_halving(view: &mut TransitionView<'_>, unix_leap_time: i64) -> usize {
     let count = view.len();
     if count == 1 {
         return 0;
@@ -111,10 +111,10 @@ const fn position_by_halving(view: &mut Uncounted<'_>, unix_leap_time: i64) -> u
 /// The first of three positions, at one of which a leap time before the last transition lies if two
 /// transitions come in each year.
 #[inline(always)]
-const fn first_by_time(view: &mut Uncounted<'_>, unix_leap_time: i64) -> usize {
+const fn first_by_time(view: &TransitionView<'_>, unix_leap_time: i64) -> usize {
     let count = view.len();
     let left = view
-        .look(count - 1)
+        .guessed_at(count - 1)
         .unix_leap_time()
         .abs_diff(unix_leap_time);
     let half_years = crate::shim::greatest!(
@@ -125,29 +125,44 @@ const fn first_by_time(view: &mut Uncounted<'_>, unix_leap_time: i64) -> usize {
 }
 
 /// Whether a leap time lies at one of three positions, by the transitions on either side of them.
-const fn is_among_three(view: &mut Uncounted<'_>, position: usize, unix_leap_time: i64) -> bool {
+const fn is_among_three(view: &TransitionView<'_>, position: usize, unix_leap_time: i64) -> bool {
     // By this read the proof knows that the sum fits.
     let _len = view.len();
-    view.look(position - 1).unix_leap_time() <= unix_leap_time
-        && unix_leap_time < view.look(position + 2).unix_leap_time()
+    view.guessed_at(position - 1).unix_leap_time() <= unix_leap_time
+        && unix_leap_time < view.guessed_at(position + 2).unix_leap_time()
+}
+
+/// The later of two positions, if the transition before it is reached at a leap time, or else the
+/// earlier one, for a guess.
+const fn position_after_guess(
+    view: &TransitionView<'_>,
+    position: usize,
+    later: usize,
+    unix_leap_time: i64,
+) -> usize {
+    if view.guessed_at(later - 1).unix_leap_time() <= unix_leap_time {
+        later
+    } else {
+        position
+    }
 }
 
 /// The position of a leap time among three.
 const fn position_among_three(
-    view: &mut Uncounted<'_>,
+    view: &TransitionView<'_>,
     position: usize,
     unix_leap_time: i64,
 ) -> usize {
     // By this read the proof knows that the sums fit.
     let _len = view.len();
-    let next = position_after_look(view, position, position + 1, unix_leap_time);
-    position_after_look(view, next, position + 2, unix_leap_time)
+    let next = position_after_guess(view, position, position + 1, unix_leap_time);
+    position_after_guess(view, next, position + 2, unix_leap_time)
 }
 
 /// The position of a leap time before the last transition, if it is one of the three positions by
 /// time.
 #[inline(always)]
-const fn guessed(view: &mut Uncounted<'_>, unix_leap_time: i64) -> Option<usize> {
+const fn guessed(view: &TransitionView<'_>, unix_leap_time: i64) -> Option<usize> {
     let first = first_by_time(view, unix_leap_time);
     if is_among_three(view, first, unix_leap_time) {
         Some(position_among_three(view, first, unix_leap_time))
@@ -159,12 +174,12 @@ const fn guessed(view: &mut Uncounted<'_>, unix_leap_time: i64) -> Option<usize>
 /// The position at which a leap time before the last transition lies: by a guess, or else by
 /// halving.
 ///
-/// A guess may take looks in vain, so there is none if looks are counted. It decides nothing by
+/// A guess may read in vain, so there is none where the looks are to be few. It decides nothing by
 /// itself: it is taken only if the transitions around it show that it is right.
 #[inline(always)]
-const fn position_before(view: &mut Uncounted<'_>, unix_leap_time: i64) -> usize {
+const fn position_before(view: &mut TransitionView<'_>, unix_leap_time: i64) -> usize {
     let count = view.len();
-    if count >= LEAST_GUESSED && count <= MOST_GUESSED && !view.is_counted() {
+    if count >= LEAST_GUESSED && count <= MOST_GUESSED && view.may_guess() {
         if let Some(position) = guessed(view, unix_leap_time) {
             return position;
         }
@@ -176,7 +191,7 @@ const fn position_before(view: &mut Uncounted<'_>, unix_leap_time: i64) -> usize
 /// looked at.
 #[inline(always)]
 pub(super) const fn position_of(
-    view: &mut Uncounted<'_>,
+    view: &mut TransitionView<'_>,
     last: Transition,
     unix_leap_time: i64,
 ) -> usize {
@@ -192,7 +207,7 @@ pub(super) const fn position_of(
 /// The last transition is looked at first: if it is reached, no other one is looked at.
 #[inline(always)]
 pub(super) const fn position_at(
-    view: &mut Uncounted<'_>,
+    view: &mut TransitionView<'_>,
     zone: &ZoneData<'_>,
     unix_time: i64,
 ) -> Option<usize> {
@@ -215,7 +230,7 @@ pub(super) const fn position_in(zone: &ZoneData<'_>, unix_time: i64) -> Option<u
     };
     let last = transitions[transitions.len() - 1];
     Some(position_of(
-        &mut Uncounted::new(transitions),
+        &mut TransitionView::new(transitions),
         last,
         unix_leap_time,
     ))

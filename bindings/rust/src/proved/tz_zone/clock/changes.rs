@@ -15,7 +15,7 @@ use crate::proved::tz_zone::leap::leap_time::{
     effect_if_reached, effect_of_reached, existing_leap_time, first_begun, last_instant_up_to,
     leap_time,
 };
-use crate::proved::tz_zone::table::Uncounted;
+use crate::proved::tz_zone::table::TransitionView;
 use crate::proved::tz_zone::timezone::zone_data::ZoneData;
 
 /// The first change of a rule after an instant: that of a zone with the rule and without
@@ -90,7 +90,7 @@ const fn change_at_next<'a>(
         return None;
     }
     let next = transitions[position];
-    let before = type_before(&mut Uncounted::new(transitions), zone, position);
+    let before = type_before(&mut TransitionView::new(transitions), zone, position);
     let after = type_of(zone, next);
     let change = match change_at(next.unix_leap_time(), Some(before), Some(after)) {
         Some(value) => value,
@@ -110,7 +110,7 @@ const fn following_from<'a>(
     let mut since = unix_time;
     let mut position = position;
     while position < transitions.len() {
-        let before = type_before(&mut Uncounted::new(transitions), zone, position);
+        let before = type_before(&mut TransitionView::new(transitions), zone, position);
         let end = end_of_run(zone, position, before);
         let effect = match effect_if_reached(zone.leap_seconds, transitions[end].unix_leap_time()) {
             Some(value) => value,
@@ -254,7 +254,7 @@ const fn first_of_run(zone: &ZoneData<'_>, position: usize) -> usize {
     if position == transitions.len() {
         return position;
     }
-    let local_time_type = type_before(&mut Uncounted::new(transitions), zone, position);
+    let local_time_type = type_before(&mut TransitionView::new(transitions), zone, position);
     start_of_run(zone, position, local_time_type)
 }
 
@@ -284,7 +284,7 @@ const fn change_at_last<'a>(
     if time == i64::MIN {
         return None;
     }
-    let before = type_before(&mut Uncounted::new(transitions), zone, position - 1);
+    let before = type_before(&mut TransitionView::new(transitions), zone, position - 1);
     let after = type_of(zone, last);
     let change = match change_at(time, Some(before), Some(after)) {
         Some(value) => value,
@@ -347,7 +347,7 @@ const fn preceding_from<'a>(
             Some(value) => value,
             None => return None,
         };
-        let before = type_before(&mut Uncounted::new(zone.transitions), zone, earlier);
+        let before = type_before(&mut TransitionView::new(zone.transitions), zone, earlier);
         let after = type_at(zone, start, effect);
         if let Some(change) = change_at(effect, Some(before), after) {
             return Some((change, earlier));

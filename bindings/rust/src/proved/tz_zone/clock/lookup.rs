@@ -5,7 +5,7 @@ use super::binary_search::position_at;
 use super::segment::Segment;
 use crate::proved::tz_base::error::TzError;
 use crate::proved::tz_rule::timezone::LocalTimeType;
-use crate::proved::tz_zone::table::{Transition, Uncounted};
+use crate::proved::tz_zone::table::{Transition, TransitionView};
 use crate::proved::tz_zone::timezone::zone_data::ZoneData;
 
 /// The segment around an instant of a clock whose transitions are all reached, or of one that has
@@ -46,7 +46,7 @@ pub(super) const fn type_from_last<'a>(
 
 /// The last transition before a position. If there is none, one at the least leap time, to the
 /// first type.
-pub(super) const fn before(view: &mut Uncounted<'_>, position: usize) -> Transition {
+pub(super) const fn before(view: &mut TransitionView<'_>, position: usize) -> Transition {
     if position == 0 {
         return Transition::new(i64::MIN, 0);
     }
@@ -60,7 +60,7 @@ pub(super) const fn type_of<'a>(zone: &ZoneData<'a>, change: Transition) -> &'a 
 
 /// The type of the last transition before a position, or the first type if there is none.
 pub(super) const fn type_before<'a>(
-    view: &mut Uncounted<'_>,
+    view: &mut TransitionView<'_>,
     zone: &ZoneData<'a>,
     position: usize,
 ) -> &'a LocalTimeType {
@@ -80,7 +80,7 @@ pub(super) const fn type_at<'a>(
         return type_from_last(zone, unix_time);
     }
     Some(type_before(
-        &mut Uncounted::new(transitions),
+        &mut TransitionView::new(transitions),
         zone,
         position,
     ))
@@ -98,7 +98,7 @@ const fn fault_after(zone: &ZoneData<'_>) -> TzError {
 /// The clock's type at an instant. (RFC 8536, section 3.2)
 #[inline(always)]
 pub const fn find_local_time_type<'a>(
-    view: &mut Uncounted<'_>,
+    view: &mut TransitionView<'_>,
     zone: &ZoneData<'a>,
     unix_time: i64,
 ) -> Result<&'a LocalTimeType, TzError> {

@@ -8,7 +8,7 @@ use crate::proved::tz_zone::leap::LeapSecond;
 use crate::proved::tz_zone::leap::leap_time::{
     effect_of_reached, first_begun, has_begun, last_before, last_instant, last_instant_up_to,
 };
-use crate::proved::tz_zone::table::{Transition, Uncounted};
+use crate::proved::tz_zone::table::{Transition, TransitionView};
 use crate::proved::tz_zone::timezone::zone_data::ZoneData;
 
 /// A change of the clock of a zone, from one type to another.
@@ -154,8 +154,9 @@ const fn segment_from_last<'a>(
 }
 
 /// The segment around an instant that lies at a position.
+#[inline(always)]
 const fn segment_at_position<'a>(
-    view: &mut Uncounted<'_>,
+    view: &mut TransitionView<'_>,
     zone: &ZoneData<'a>,
     position: usize,
     unix_time: i64,
@@ -173,8 +174,9 @@ const fn segment_at_position<'a>(
 }
 
 /// The segment of the clock around an instant.
+#[inline(always)]
 pub const fn clock_segment_at<'a>(
-    view: &mut Uncounted<'_>,
+    view: &mut TransitionView<'_>,
     zone: &ZoneData<'a>,
     unix_time: i64,
 ) -> Segment<'a> {

@@ -7,7 +7,7 @@ use crate::proved::tz_rule::timezone::LocalTimeType;
 use crate::proved::tz_zone::leap::leap_time::{
     effect_of_reached, first_begun, last_before, leap_time, stay_before,
 };
-use crate::proved::tz_zone::table::Uncounted;
+use crate::proved::tz_zone::table::TransitionView;
 use crate::proved::tz_zone::timezone::zone_data::ZoneData;
 
 /// How far a walk along a clock has come.
@@ -37,7 +37,7 @@ pub struct Span<'a> {
 /// there. `position` is that of `unix_time`, or `None` if there are transitions and it has no leap
 /// time. In a zone without transitions the first instant is `unix_time` itself.
 pub const fn first_stage<'a>(
-    view: &mut Uncounted<'_>,
+    view: &mut TransitionView<'_>,
     zone: &ZoneData<'a>,
     position: Option<usize>,
     unix_time: i64,
@@ -73,7 +73,7 @@ pub const fn first_stage<'a>(
 /// The span of a clock from where a walk has come to, up to `high` at most. `high` is not above
 /// `ALWAYS_DEFINED_UP_TO`, so every instant from `since` to it has a leap time.
 pub const fn span_from<'a>(
-    view: &mut Uncounted<'_>,
+    view: &mut TransitionView<'_>,
     zone: &ZoneData<'a>,
     stage: Stage<'a>,
     since: i64,
@@ -163,7 +163,7 @@ const fn types_after_table<'a>(
 /// has a leap time.
 #[inline(always)]
 const fn types_at_position<'a>(
-    view: &mut Uncounted<'_>,
+    view: &mut TransitionView<'_>,
     zone: ZoneData<'a>,
     position: usize,
     low: i64,
@@ -213,7 +213,7 @@ const fn types_at_position<'a>(
 /// window. Otherwise the answer is `More`.
 #[inline(always)]
 pub const fn window_types<'a>(
-    view: &mut Uncounted<'_>,
+    view: &mut TransitionView<'_>,
     zone: ZoneData<'a>,
     low: i64,
     high: i64,

@@ -6,7 +6,7 @@ use super::{Change, LeapSecond, LocalTimeType, Segment, Transition, TransitionRu
 use crate::proved::tz_base::error::TzError;
 use crate::proved::tz_rule::inner::{AlternateData, RuleRef};
 use crate::proved::tz_zone::clock::{self, find_following, find_preceding};
-use crate::proved::tz_zone::table::Uncounted;
+use crate::proved::tz_zone::table::TransitionView;
 
 /// The rule of a zone as its owner keeps it. It is lent where the rule is needed, so that lending a
 /// zone tests nothing of it.
@@ -140,14 +140,14 @@ impl<'a> ZoneData<'a> {
     /// The clock's type at an instant, as `TimeZoneRef::find_local_time_type` answers it.
     #[inline(always)]
     pub const fn find_local_time_type(&self, unix_time: i64) -> Result<&'a LocalTimeType, TzError> {
-        let mut view = Uncounted::new(self.transitions);
+        let mut view = TransitionView::new(self.transitions);
         clock::find_local_time_type(&mut view, self, unix_time)
     }
 
     /// The segment around an instant, as `TimeZoneRef::segment_at` answers it.
     #[must_use]
     pub const fn segment_at(&self, unix_time: i64) -> Segment<'a> {
-        let mut view = Uncounted::new(self.transitions);
+        let mut view = TransitionView::new(self.transitions);
         clock::clock_segment_at(&mut view, self, unix_time)
     }
 

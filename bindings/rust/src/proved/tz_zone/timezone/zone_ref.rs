@@ -3,10 +3,10 @@
 
 use super::zone_data::{RuleSource, ZoneData};
 use super::{LeapSecond, LocalTimeType, Transition, TransitionRule};
+use crate::proved::tz_base::error::TzError;
 use crate::proved::tz_zone::clock;
 use crate::proved::tz_zone::leap::table_checks::expiry;
-
-use crate::proved::tz_base::error::TzError;
+use crate::proved::tz_zone::table::TransitionView;
 use core::fmt;
 
 /// A borrowed time zone.
@@ -166,6 +166,22 @@ impl<'a> TimeZoneRef<'a> {
     #[inline(always)]
     pub const fn find_local_time_type(&self, unix_time: i64) -> Result<&'a LocalTimeType, TzError> {
         self.plain.find_local_time_type(unix_time)
+    }
+
+    /// The clock's type at an instant, and how many transitions were read. The count saturates at
+    /// `u64::MAX`.
+    ///
+    /// # Errors
+    ///
+    /// Those of [`TimeZoneRef::find_local_time_type`].
+    #[must_use]
+    pub fn find_local_time_type_counted(
+        &self,
+        unix_time: i64,
+    ) -> (Result<&'a LocalTimeType, TzError>, u64) {
+        let mut view = TransitionView::counted(self.plain.transitions);
+        let answer = clock::find_local_time_type(&mut view, &self.plain, unix_time);
+        (answer, view.looks())
     }
 }
 

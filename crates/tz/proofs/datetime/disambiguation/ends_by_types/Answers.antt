@@ -13,7 +13,7 @@ give_in_window-requires c κs =
     ) (
       (refl, tt),
       (
-        c.new-view.ensures ∙ c.transitions.ensures,
+        c.new-view.ensures.list ∙ c.transitions.ensures,
         (
           c.requires.searchable,
           (

@@ -1,5 +1,5 @@
 -- The clock has one type in the window, or two with a jump between them, or a walk finds what it has.
-use Rattle.tz.proofs.Common.{arith, refl, ◌≡◌, subst, ints, [], to_z-of_z, ◌∷◌, rules, w64, IsClock, ◌-ℤ◌, zone_of_data, Shown, IfErr-weaker, on_ok_weaker, HasTwoTypes}
+use Rattle.tz.proofs.Common.{arith, refl, ◌≡◌, ◌∙◌, subst, ints, [], to_z-of_z, ◌∷◌, rules, w64, IsClock, ◌-ℤ◌, zone_of_data, Shown, IfErr-weaker, on_ok_weaker, HasTwoTypes}
 use Rattle.tz.proofs.EntryWalks.{entries_once, few_entries}
 use Rattle.tz.proofs.datetime.gaps_and_folds.give_in_window.Goals as goal
 
@@ -15,8 +15,8 @@ shown-requires g c =
           c.requires.takes.takes_reading,
     ))
 
-pub walk-requires : goal.walk-requires
-walk-requires g c =
+pub walk-answer-requires : goal.walk-answer-requires
+walk-answer-requires g c =
     rw (
       to_z-of_z w64 c.args.reading c.ranges.reading,
       to_z-of_z w64 c.args.low c.ranges.low,
@@ -26,7 +26,7 @@ walk-requires g c =
     (λ k. (
       (refl, tt),
       (
-        c.requires.view,
+        c.fresh-rest.ensures.list ∙ c.requires.view,
         (c.requires.searchable, (c.requires.takes, rw c.in-More.is at c.requires.position)),
       ),
     ))
@@ -87,11 +87,29 @@ returns-in-Two g c =
     }
 
 pub returns-in-More-clause-ok : goal.returns-in-More-clause-ok
-returns-in-More-clause-ok g c = rw (to_z-of_z w64 c.args.reading c.ranges.reading) at c.walk.ensures.ok
+returns-in-More-clause-ok g c = rw (to_z-of_z w64 c.args.reading c.ranges.reading) at c.walk-answer.ensures.ok
 
 pub returns-in-More-clause-at_most : goal.returns-in-More-clause-at_most
 returns-in-More-clause-at_most g c =
-    rw c.in-More.is (rw (
+    let most = rw (
       to_z-of_z w64 c.args.low c.ranges.low,
       to_z-of_z w64 c.args.high c.ranges.high,
-    ) at c.walk.ensures.at_most)
+    ) at c.walk-answer.ensures.at_most in
+    rw c.in-More.is (on_ok_weaker c.walk-answer.result
+    (λ at_most b w bits within. omega (
+      arith,
+      at_most b w (rw c.fresh-rest.ensures.list bits) within,
+      c.fresh-rest.ensures.looks,
+      c.looks.ensures,
+      c.add_looks.ensures.at_most,
+    )) most)
+
+pub returns-in-More-clause-none : goal.returns-in-More-clause-none
+returns-in-More-clause-none g c =
+    on_ok_weaker c.walk-answer.result
+    (λ none empty. c.add_looks.ensures.none (omega (
+      arith,
+      none (rw c.fresh-rest.ensures.list empty),
+      c.fresh-rest.ensures.looks,
+      c.looks.ensures,
+    ))) c.walk-answer.ensures.none

@@ -1,5 +1,5 @@
 -- The search goes on from the types of the window, with the looks that they took.
-use Rattle.tz.proofs.Common.{arith, refl, ◌≡◌, ◌∙◌, inr, inl, to_z-of_z, ℕ, ◌<◌, length, ◌+◌, w64, Some, ◌≤◌, suc, zero, ◌*◌, ◌^◌, None, Option, cases_lt, on_ok_weaker, nil_from_length, MatchOption, first_looks, looks_after}
+use Rattle.tz.proofs.Common.{arith, refl, ◌≡◌, ◌∙◌, inr, inl, to_z-of_z, ℕ, ◌<◌, length, ◌+◌, w64, Some, ◌≤◌, suc, zero, ◌*◌, ◌^◌, None, Option, cases_lt, on_ok_weaker, nil_from_length, MatchOption, first_looks, looks_after, list_of}
 use Rattle.tz_zone.specs.WindowTypes.{IfMore}
 use Rattle.tz_zone.specs.declared.clock.window_types.WindowTypes.{WindowTypes}
 use Rattle.tz_zone.specs.declared.clock.window_types.WindowTypes.TheVariants.{One, Two, More}
@@ -51,7 +51,7 @@ few_in_all (More position) n old before looks b w bits none first most more few 
 
 pub returns : goal.returns
 returns g c =
-    let list = g.V.Transitions.list c.args.view.now in
+    let list = list_of c.args.view.now in
     let types = c.window_types-types.ensures in
     let given = rw (
       types.same,

@@ -1,5 +1,5 @@
 -- From one span to the next, up to the end of the window.
-use Rattle.tz.proofs.Common.{arith, refl, ◌≡◌, ◌∙◌, ints, inr, inl, [], to_z-of_z, rules, ◌+◌, pos, w64, IsClock, ◌≤◌, ◌++◌, ◌-ℤ◌, ◌+ℤ◌, ◌<ℤ◌, ◌≤ℤ◌, None, err_from_is_err_and, zone_of_data, SFits, lent_type, IsInstant-from_bounds, instant_bounds}
+use Rattle.tz.proofs.Common.{arith, refl, ◌≡◌, ◌∙◌, ints, inr, inl, [], to_z-of_z, rules, ◌+◌, pos, w64, IsClock, ◌≤◌, ◌++◌, ◌-ℤ◌, ◌+ℤ◌, ◌<ℤ◌, ◌≤ℤ◌, None, err_from_is_err_and, zone_of_data, SFits, lent_type, IsInstant-from_bounds, instant_bounds, looks_of}
 use Rattle.tz.proofs.EntryWalks.{few_entries, refused_there, room_less, span_holds, walked_on, walked_to_end, walked_to_first}
 use Rattle.tz.proofs.WalkLooks.{looks_at_first, looks_in_all, looks_on}
 use Rattle.tz.proofs.datetime.gaps_and_folds.walk.Goals as goal
@@ -45,7 +45,7 @@ loop-since-init g c =
             c.args.reading c.requires.searchable.offsets first found.0 found.2,
       );
       looks = looks_at_first z c.args.low c.args.high c.in-Some.stage.position
-          (g.V.Transitions.looks c.first_stage.new.view);
+          (looks_of c.first_stage.new.view);
     })
 
 pub span_from-span-requires-clause-view : goal.span_from-span-requires-clause-view
@@ -172,8 +172,8 @@ loop-since-preserved-then-since-span g c =
       );
       looks = looks_on z s.sound low high s.reach first begun.0 c.in-Some.stage begun.1 since c.loop-since.stage stage
           inside
-          (g.V.Transitions.looks c.first_stage.new.view) (g.V.Transitions.looks c.loop-since.view)
-          (g.V.Transitions.looks c.span_from-span.new.view) span.next.position
+          (looks_of c.first_stage.new.view) (looks_of c.loop-since.view)
+          (looks_of c.span_from-span.new.view) span.next.position
           so_far.looks ensured.kept ensured.at_most ensured.onward (rw c.requires.view at ensured.within);
     })
 
@@ -227,8 +227,8 @@ loop-since-preserved g c =
       found = so_far.found;
       looks = looks_on (zone_of_data c.args.zone) s.sound c.args.low high s.reach first begun.0 c.in-Some.stage begun.1
           since c.loop-since.stage stage inside
-          (g.V.Transitions.looks c.first_stage.new.view) (g.V.Transitions.looks c.loop-since.view)
-          (g.V.Transitions.looks c.span_from-span.new.view) span.next.position
+          (looks_of c.first_stage.new.view) (looks_of c.loop-since.view)
+          (looks_of c.span_from-span.new.view) span.next.position
           so_far.looks ensured.kept ensured.at_most ensured.onward (rw c.requires.view at ensured.within);
     })
 

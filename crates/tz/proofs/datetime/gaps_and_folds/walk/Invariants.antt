@@ -1,13 +1,13 @@
 -- The walk has come to an instant, with a look for each transition that it passed.
-use Rattle.tz.proofs.Common.{◌≡◌, List, length, ◌+◌, pos, w64, IsClock, ◌-ℤ◌, ◌+ℤ◌, ◌-◌, ◌≤ℤ◌, zone_of_data, SFits, Entry, lent_type, IsStage}
+use Rattle.tz.proofs.Common.{◌≡◌, List, length, ◌+◌, pos, w64, IsClock, ◌-ℤ◌, ◌+ℤ◌, ◌-◌, ◌≤ℤ◌, zone_of_data, SFits, Entry, lent_type, IsStage, list_of, looks_of}
 use Rattle.tz.proofs.EntryWalks.{IsWalkedTo, room}
 use Rattle.tz.proofs.WalkLooks.{AreLooks}
 use Rattle.tz.proofs.datetime.gaps_and_folds.walk.Given as goal
 
 abbrev pub invariant-loop-since : goal.invariant-loop-since
 invariant-loop-since g l =
-    let list = g.V.Transitions.list in
-    let looks = g.V.Transitions.looks in
+    let list = list_of in
+    let looks = looks_of in
     let z = zone_of_data l.zone in
     record {
       same : list l.view ≡ list l.initial.view;
@@ -20,4 +20,4 @@ invariant-loop-since g l =
 
 abbrev pub decreases-loop-since : goal.decreases-loop-since
 decreases-loop-since g l = room (l.high +ℤ pos 1 -ℤ l.since)
-    + (length (g.V.Transitions.list l.initial.view) - l.stage.position)
+    + (length (list_of l.initial.view) - l.stage.position)

@@ -1,10 +1,10 @@
 -- A power of two that is not another one up to it is twice a power of two, which is not less than that one.
-use Rattle.tz_zone.proofs.Common.{arith, to_z-of_z, ℕ, w64, sym, ◌∙◌, subst, IsAmongPositions, pow_mono}
+use Rattle.tz_zone.proofs.Common.{arith, to_z-of_z, ℕ, w64, sym, ◌∙◌, subst, IsAmongPositions, pow_mono, list_of}
 use Rattle.tz_zone.proofs.PowerSteps.{half_power}
 use Rattle.tz_zone.proofs.clock.binary_search.halved.Goals as goal
 
 pub half-position-requires-clause-some : goal.half-position-requires-clause-some
-half-position-requires-clause-some g c =
+half-position-requires-clause-some c =
     let (e, f, count_is, least_is, order) = c.requires.powers in
     let (k, left_is, least_within, looks) = c.loop-left.invariant.steps e f count_is least_is order in
     let half = half_power c.loop-left.left k f left_is (λ same. c.loop-left-test.true (same ∙ sym least_is))
@@ -12,17 +12,17 @@ half-position-requires-clause-some g c =
     omega (arith, half.2, pow_mono {i = 0} {j = half.0} (omega arith))
 
 pub half-position-requires-clause-among : goal.half-position-requires-clause-among
-half-position-requires-clause-among g c =
+half-position-requires-clause-among c =
     let time_is = to_z-of_z w64 c.args.unix_leap_time c.ranges.unix_leap_time in
     let (e, f, count_is, least_is, order) = c.requires.powers in
     let (k, left_is, least_within, looks) = c.loop-left.invariant.steps e f count_is least_is order in
     let half = half_power c.loop-left.left k f left_is (λ same. c.loop-left-test.true (same ∙ sym least_is))
     least_within in
-    rw time_is (subst (λ (n : ℕ). IsAmongPositions (g.V.Transitions.list c.loop-left.view) c.args.unix_leap_time
+    rw time_is (subst (λ (n : ℕ). IsAmongPositions (list_of c.loop-left.view) c.args.unix_leap_time
     c.loop-left.position n) (omega (arith, half.2, half.3)) (rw time_is at c.loop-left.invariant.among))
 
 pub loop-left-preserved : goal.loop-left-preserved
-loop-left-preserved g c =
+loop-left-preserved c =
     let time_is = to_z-of_z w64 c.args.unix_leap_time c.ranges.unix_leap_time in
     let inv = c.loop-left.invariant in
     let moved = c.half-position.ensures in
@@ -38,9 +38,9 @@ loop-left-preserved g c =
     })
 
 pub returns-clause-among : goal.returns-clause-among
-returns-clause-among g c =
+returns-clause-among c =
     let (e, f, count_is, least_is, order) = c.requires.powers in
     let (k, left_is, least_within, looks) = c.loop-left.invariant.steps e f count_is least_is order in
     let time_is = to_z-of_z w64 c.args.unix_leap_time c.ranges.unix_leap_time in
-    subst (λ (n : ℕ). IsAmongPositions (g.V.Transitions.list c.loop-left.view) c.args.unix_leap_time
+    subst (λ (n : ℕ). IsAmongPositions (list_of c.loop-left.view) c.args.unix_leap_time
     c.loop-left.position n) (omega (arith, c.loop-left-test.false)) (rw time_is at c.loop-left.invariant.among)

@@ -1,11 +1,11 @@
 -- The positions that are left are as many as a power of two, and a look is taken for each halving.
-use Rattle.tz_zone.proofs.Common.{◌≡◌, ℕ, ◌≤◌, ◌+◌, ◌^◌, IsAmongPositions}
+use Rattle.tz_zone.proofs.Common.{◌≡◌, ℕ, ◌≤◌, ◌+◌, ◌^◌, IsAmongPositions, list_of, looks_of}
 use Rattle.tz_zone.proofs.clock.binary_search.halved.Given as goal
 
 abbrev pub invariant-loop-left : goal.invariant-loop-left
-invariant-loop-left g l =
-    let list = g.V.Transitions.list in
-    let looks = g.V.Transitions.looks in
+invariant-loop-left l =
+    let list = list_of in
+    let looks = looks_of in
     record {
       same : list l.view ≡ list l.initial.view;
       among : IsAmongPositions (list l.view) l.unix_leap_time l.position l.left;
@@ -15,4 +15,4 @@ invariant-loop-left g l =
     }
 
 abbrev pub decreases-loop-left : goal.decreases-loop-left
-decreases-loop-left g l = l.left
+decreases-loop-left l = l.left

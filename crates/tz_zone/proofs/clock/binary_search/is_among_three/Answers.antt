@@ -1,15 +1,15 @@
 -- What is reached is reached with all before it, and what is ahead with all after it.
-use Rattle.tz_zone.proofs.Common.{arith, to_z-of_z, ℕ, rules, ints, w64, sym, subst, ◌≤ℤ◌, ◌<ℤ◌, ◌-◌, ◌+◌, AreReached, AreAhead}
+use Rattle.tz_zone.proofs.Common.{arith, to_z-of_z, ℕ, rules, ints, w64, subst, ◌≤ℤ◌, ◌<ℤ◌, ◌-◌, ◌+◌, AreReached, AreAhead, list_of}
 use Rattle.tz_zone.proofs.RisingTimes.{ahead_from, reached_through}
 use Rattle.tz_zone.proofs.clock.binary_search.is_among_three.Goals as goal
 
-pub returns-then-unix_leap_time-clause-among : goal.returns-then-unix_leap_time-clause-among
-returns-then-unix_leap_time-clause-among g c = λ before.
-    let list = g.V.Transitions.list c.args.view.now in
+pub returns-then-unix_leap_time : goal.returns-then-unix_leap_time
+returns-then-unix_leap_time c = λ before.
+    let list = list_of c.args.view.now in
     let l = c.args.unix_leap_time in
     let position = c.args.position in
-    let last = c.look.result in
-    let next = c.look-then-unix_leap_time.result in
+    let last = c.guessed_at.result in
+    let next = c.guessed_at-then-unix_leap_time.result in
     let reached : last.unix_leap_time ≤ℤ l =
     omega (
       arith,
@@ -32,7 +32,7 @@ returns-then-unix_leap_time-clause-among g c = λ before.
     ) in (
       omega (arith, c.requires.within),
       subst (λ (k : ℕ). AreReached list l k) (omega (arith, c.requires.some))
-          (reached_through list c.requires.rising l (position - 1) last c.look.ensures.value reached),
+          (reached_through list c.requires.rising l (position - 1) last c.guessed_at.ensures reached),
       subst (λ (k : ℕ). AreAhead list l k) (omega arith) (ahead_from list c.requires.rising l (position + 2) next
-          (rw (sym c.look.ensures.same) c.look-then-unix_leap_time.ensures.value) ahead),
+          c.guessed_at-then-unix_leap_time.ensures ahead),
     )

@@ -1,11 +1,11 @@
 -- What is reached is reached with all before it, and what is ahead with all after it.
-use Rattle.tz_zone.proofs.Common.{arith, to_z-of_z, ℕ, rules, ints, w64, refl, inr, inl, subst, ◌≤ℤ◌, ◌<ℤ◌, ◌-◌, AreReached}
+use Rattle.tz_zone.proofs.Common.{arith, to_z-of_z, ℕ, rules, ints, w64, refl, inr, inl, subst, ◌≤ℤ◌, ◌<ℤ◌, ◌-◌, AreReached, list_of}
 use Rattle.tz_zone.proofs.RisingTimes.{ahead_from, reached_through}
 use Rattle.tz_zone.proofs.clock.binary_search.position_after_look.Goals as goal
 
 pub returns-then-unix_leap_time-clause-position : goal.returns-then-unix_leap_time-clause-position
-returns-then-unix_leap_time-clause-position g c =
-    let list = g.V.Transitions.list c.args.view.now in
+returns-then-unix_leap_time-clause-position c =
+    let list = list_of c.args.view.now in
     let l = c.args.unix_leap_time in
     let reached : c.look.result.unix_leap_time ≤ℤ l =
     omega (
@@ -24,7 +24,7 @@ returns-then-unix_leap_time-clause-position g c =
     )
 
 pub returns-else-unix_leap_time-clause-position : goal.returns-else-unix_leap_time-clause-position
-returns-else-unix_leap_time-clause-position g c =
+returns-else-unix_leap_time-clause-position c =
     let l = c.args.unix_leap_time in
     let ahead : l <ℤ c.look.result.unix_leap_time =
     omega (
@@ -38,6 +38,6 @@ returns-else-unix_leap_time-clause-position g c =
     ) in
     inr (
       refl,
-      ahead_from (g.V.Transitions.list c.args.view.now) c.requires.rising l (c.args.later - 1) c.look.result
+      ahead_from (list_of c.args.view.now) c.requires.rising l (c.args.later - 1) c.look.result
           c.look.ensures.value ahead,
     )

@@ -4,11 +4,11 @@ use Rattle.tz_zone.proofs.Positions.{reached_at}
 use Rattle.tz_zone.proofs.clock.binary_search.position_at.Goals as goal
 
 pub position_of-requires-clause-rising : goal.position_of-requires-clause-rising
-position_of-requires-clause-rising g c =
+position_of-requires-clause-rising c =
     rw (c.look-last.ensures.same, c.requires.view) (λ i. (c.args.zone.now.sound.transitions_are i).1)
 
 pub returns-clause-position : goal.returns-clause-position
-returns-clause-position g c =
+returns-clause-position c =
     let l = c.in-Some.unix_leap_time in
     let found = rw (
       c.look-last.ensures.same,

@@ -11,18 +11,19 @@ returns-in_err-unix_leap_time c =
     match_none c.from_residual.result _ _ c.from_residual.ensures refused
 
 pub position_of-requires-clause-rising : goal.position_of-requires-clause-rising
-position_of-requires-clause-rising c = rw c.new.ensures (rising (zone_of_data c.args.zone.now) c.args.zone.now.sound)
+position_of-requires-clause-rising c =
+    rw c.new.ensures.list (rising (zone_of_data c.args.zone.now) c.args.zone.now.sound)
 
 pub position_of-requires-clause-last : goal.position_of-requires-clause-last
 position_of-requires-clause-last c =
     let list = c.args.zone.now.transitions.now in
     let last = c.index-transitions-transitions.result in
     let inside : length list - 1 < length list = omega (arith, c.requires) in
-    rw c.new.ensures (slice_get_read list _ (length list - 1) last refl inside c.index-transitions-transitions.is)
+    rw c.new.ensures.list (slice_get_read list _ (length list - 1) last refl inside c.index-transitions-transitions.is)
 
 pub returns : goal.returns
 returns c =
     let l = c.in_ok-unix_leap_time.unix_leap_time in
-    let found = rw (c.new.ensures, to_z-of_z w64 l (search rules)) at c.position_of.ensures in
+    let found = rw (c.new.ensures.list, to_z-of_z w64 l (search rules)) at c.position_of.ensures in
     let leap = rw (to_z-of_z w64 c.args.unix_time c.ranges.unix_time) at c.in_ok-unix_leap_time.ensures in
     (found.within, reached_at (zone_of_data c.args.zone.now) _ l _ leap found.at)

@@ -1,11 +1,11 @@
 -- If the last transition is reached, all are.
-use Rattle.tz_zone.proofs.Common.{arith, to_z-of_z, ℕ, rules, ints, w64, length, subst, ◌≤ℤ◌, ◌<ℤ◌, ◌-◌, slice_get_within, AreReached}
+use Rattle.tz_zone.proofs.Common.{arith, to_z-of_z, ℕ, rules, ints, w64, length, subst, ◌≤ℤ◌, ◌<ℤ◌, ◌-◌, slice_get_within, AreReached, list_of}
 use Rattle.tz_zone.proofs.RisingTimes.{ahead_from, reached_through}
 use Rattle.tz_zone.proofs.clock.binary_search.position_of.Goals as goal
 
 pub position_before-requires-clause-ahead : goal.position_before-requires-clause-ahead
-position_before-requires-clause-ahead g c =
-    let list = g.V.Transitions.list c.args.view.now in
+position_before-requires-clause-ahead c =
+    let list = list_of c.args.view.now in
     let l = c.args.unix_leap_time in
     let last = c.args.last in
     let ahead : l <ℤ last.unix_leap_time =
@@ -22,8 +22,8 @@ position_before-requires-clause-ahead g c =
     (ahead_from list c.requires.rising l (length list - 1) last c.requires.last ahead)
 
 pub returns-then-unix_leap_time-clause-at : goal.returns-then-unix_leap_time-clause-at
-returns-then-unix_leap_time-clause-at g c =
-    let list = g.V.Transitions.list c.args.view.now in
+returns-then-unix_leap_time-clause-at c =
+    let list = list_of c.args.view.now in
     let l = c.args.unix_leap_time in
     let last = c.args.last in
     let reached : last.unix_leap_time ≤ℤ l =
@@ -40,3 +40,7 @@ returns-then-unix_leap_time-clause-at g c =
     subst (λ (k : ℕ). AreReached list l k) (omega (arith, c.requires.at_least_one))
     (reached_through list c.requires.rising l (length list - 1) last c.requires.last reached) in
     rw c.len.ensures (all, λ i change above at_i. absurd (omega (arith, above, slice_get_within list i change at_i)))
+
+pub returns-clause-at : goal.returns-clause-at
+returns-clause-at c =
+    rw (to_z-of_z w64 c.args.unix_leap_time c.ranges.unix_leap_time) at c.position_before.ensures.at

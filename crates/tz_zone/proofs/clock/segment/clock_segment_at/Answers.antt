@@ -5,7 +5,7 @@ use Rattle.tz_zone.proofs.InstantsWithLeapTime.{no_type_refused}
 use Rattle.tz_zone.proofs.clock.segment.clock_segment_at.Goals as goal
 
 pub returns-in_default-clause-at : goal.returns-in_default-clause-at
-returns-in_default-clause-at g c =
+returns-in_default-clause-at c =
     let z = zone_of_data c.args.zone.now in
     let count = c.len.ensures ∙ ap length c.requires.view in
     let some : z.transitions ≢ [] = λ none. c.if-len-eq0.false (count ∙ ap length none) in
@@ -17,7 +17,7 @@ returns-in_default-clause-at g c =
     }
 
 pub returns-in_default-clause-ends : goal.returns-in_default-clause-ends
-returns-in_default-clause-ends g c = record {
+returns-in_default-clause-ends c = record {
   from_is = λ not_least. inr (c.undefined_segment.ensures.from not_least);
   last_is = λ not_greatest. inl (inr (inr (c.undefined_segment.ensures.last not_greatest)));
 }

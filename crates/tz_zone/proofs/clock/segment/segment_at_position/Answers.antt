@@ -9,7 +9,7 @@ use Rattle.tz_zone.proofs.SegmentPositions.{start_up_to, lies_since}
 use Rattle.tz_zone.proofs.clock.segment.segment_at_position.Goals as goal
 
 pub returns-then-position-len : goal.returns-then-position-len
-returns-then-position-len g c =
+returns-then-position-len c =
     let zone = c.args.zone.now in
     let z = zone_of_data zone in
     let u = c.args.unix_time in
@@ -39,7 +39,7 @@ returns-then-position-len g c =
     }
 
 pub effect_of_reached-requires-clause-reached : goal.effect_of_reached-requires-clause-reached
-effect_of_reached-requires-clause-reached g c =
+effect_of_reached-requires-clause-reached c =
     let zone = c.args.zone.now in
     let u = c.args.unix_time in
     let at = c.requires.at in
@@ -55,7 +55,7 @@ effect_of_reached-requires-clause-reached g c =
     )
 
 pub last_before-requires-clause-before : goal.last_before-requires-clause-before
-last_before-requires-clause-before g c =
+last_before-requires-clause-before c =
     let zone = c.args.zone.now in
     let z = zone_of_data zone in
     let u = c.args.unix_time in
@@ -70,13 +70,13 @@ last_before-requires-clause-before g c =
     )
 
 pub type_of-requires : goal.type_of-requires
-type_of-requires g c =
+type_of-requires c =
     let zone = c.args.zone.now in
     names_type (zone_of_data zone) zone.sound c.args.position c.before-before.result
     (rw c.requires.view at c.before-before.ensures.before)
 
 pub returns : goal.returns
-returns g c =
+returns c =
     let zone = c.args.zone.now in
     let z = zone_of_data zone in
     let u = c.args.unix_time in

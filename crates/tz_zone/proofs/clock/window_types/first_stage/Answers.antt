@@ -5,7 +5,7 @@ use Rattle.tz_zone.proofs.InstantsWithLeapTime.{no_type_refused, past_from}
 use Rattle.tz_zone.proofs.clock.window_types.first_stage.Goals as goal
 
 pub returns-in_err-position-clause-stage : goal.returns-in_err-position-clause-stage
-returns-in_err-position-clause-stage g c =
+returns-in_err-position-clause-stage c =
     let zone = c.args.zone.now in
     let z = zone_of_data zone in
     let first = c.in_ok-first.first in
@@ -19,7 +19,7 @@ returns-in_err-position-clause-stage g c =
     (λ from. past_from z.leap_seconds zone.sound.leap_seconds_are first v begun.1 refused from)))
 
 pub returns-clause-stage : goal.returns-clause-stage
-returns-clause-stage g c =
+returns-clause-stage c =
     let first = c.in_ok-first.first in
     let fits : SFits w64 first = search rules in
     let some = (MatchOption-at_none {o = c.args.position} _ _ c.in_default.is c.requires.position).0 in

@@ -6,7 +6,7 @@ use Rattle.tz_zone.proofs.ClockStages.{types_after_table, stage_later, all_reach
 use Rattle.tz_zone.proofs.clock.window_types.span_from.Goals as goal
 
 pub returns-then-stage-count-clause-holds : goal.returns-then-stage-count-clause-holds
-returns-then-stage-count-clause-holds g c =
+returns-then-stage-count-clause-holds c =
     let zone = c.args.zone.now in
     let z = zone_of_data zone in
     let s = c.after_table-segment.result in
@@ -25,12 +25,12 @@ returns-then-stage-count-clause-holds g c =
     (omega (arith, ints, to, cut.self_bound))))
 
 pub returns-then-stage-count-clause-next : goal.returns-then-stage-count-clause-next
-returns-then-stage-count-clause-next g c = λ first from stage low past high.
+returns-then-stage-count-clause-next c = λ first from stage low past high.
     stage_later (zone_of_data c.args.zone.now) c.args.zone.now.sound first c.args.since c.args.stage stage from low
     (omega (arith, ints, high, c.requires.window.1))
 
 pub returns-then-stage-count-clause-onward : goal.returns-then-stage-count-clause-onward
-returns-then-stage-count-clause-onward g c =
+returns-then-stage-count-clause-onward c =
     let s = c.after_table-segment.result in
     let last_is = to_z-of_z w64 s.last (search rules) in
     let high_is = to_z-of_z w64 c.args.high c.ranges.high in
@@ -41,7 +41,7 @@ returns-then-stage-count-clause-onward g c =
     rw (to_z-of_z w64 c.min.result (search rules)) (inl (refl, since))
 
 pub returns-then-stage-count-clause-whole : goal.returns-then-stage-count-clause-whole
-returns-then-stage-count-clause-whole g c =
+returns-then-stage-count-clause-whole c =
     let rule = (zone_of_data c.args.zone.now).extra_rule in
     let s = c.after_table-segment.result in
     let last_is = to_z-of_z w64 s.last (search rules) in
@@ -55,7 +55,7 @@ returns-then-stage-count-clause-whole g c =
     ])
 
 pub last_before-requires-clause-before : goal.last_before-requires-clause-before
-last_before-requires-clause-before g c =
+last_before-requires-clause-before c =
     let zone = c.args.zone.now in
     let z = zone_of_data zone in
     let s = c.args.stage in
@@ -69,12 +69,12 @@ last_before-requires-clause-before g c =
     )
 
 pub type_of-requires : goal.type_of-requires
-type_of-requires g c =
+type_of-requires c =
     let at_next = rw c.requires.view at c.look-next.ensures.value in
     (c.args.zone.now.sound.transitions_are c.args.stage.position).0 c.look-next.result at_next
 
 pub returns-clause-holds : goal.returns-clause-holds
-returns-clause-holds g c =
+returns-clause-holds c =
     let zone = c.args.zone.now in
     let (first, stage) = c.requires.stage in
     let at_next = rw c.requires.view at c.look-next.ensures.value in
@@ -89,7 +89,7 @@ returns-clause-holds g c =
     (end.before v (omega (arith, ints, to, cut.self_bound))))
 
 pub returns-clause-next : goal.returns-clause-next
-returns-clause-next g c =
+returns-clause-next c =
     let zone = c.args.zone.now in
     let at_next = rw c.requires.view at c.look-next.ensures.value in
     let high_is = to_z-of_z w64 c.args.high c.ranges.high in

@@ -5,7 +5,7 @@ use Rattle.tz_zone.proofs.LeapTimes.{instant_bounds}
 use Rattle.tz_zone.proofs.clock.window_types.types_at_position.Goals as goal
 
 pub returns-then-stay_before-clause-types : goal.returns-then-stay_before-clause-types
-returns-then-stay_before-clause-types g c =
+returns-then-stay_before-clause-types c =
     let zone = c.args.zone in
     let z = zone_of_data zone in
     let low = c.args.low in
@@ -25,7 +25,7 @@ returns-then-stay_before-clause-types g c =
 
 pub returns-then-high_leap_time-next_leap_time-clause-types :
     goal.returns-then-high_leap_time-next_leap_time-clause-types
-returns-then-high_leap_time-next_leap_time-clause-types g c =
+returns-then-high_leap_time-next_leap_time-clause-types c =
     let zone = c.args.zone in
     let z = zone_of_data zone in
     let low = c.args.low in
@@ -45,7 +45,7 @@ returns-then-high_leap_time-next_leap_time-clause-types g c =
     type.ensures.value
 
 pub effect_of_reached-unix_time-requires-clause-reached : goal.effect_of_reached-unix_time-requires-clause-reached
-effect_of_reached-unix_time-requires-clause-reached g c =
+effect_of_reached-unix_time-requires-clause-reached c =
     let h = c.in-Some.high_leap_time in
     let leap = rw (to_z-of_z w64 c.args.high c.ranges.high) at c.in-Some.ensures in
     let next = c.unix_leap_time-next_leap_time.result in
@@ -55,12 +55,12 @@ effect_of_reached-unix_time-requires-clause-reached g c =
     (c.args.high, (instant_bounds c.args.high c.ranges.high).1, (h, leap, rw next_is reached))
 
 pub type_of-after-requires : goal.type_of-after-requires
-type_of-after-requires g c =
+type_of-after-requires c =
     let at_next = rw c.requires.view at c.look-next.ensures.value in
     (c.args.zone.sound.transitions_are c.args.position).0 c.look-next.result at_next
 
 pub returns-clause-types : goal.returns-clause-types
-returns-clause-types g c =
+returns-clause-types c =
     let zone = c.args.zone in
     let z = zone_of_data zone in
     let low = c.args.low in

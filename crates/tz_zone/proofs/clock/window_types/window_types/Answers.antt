@@ -1,5 +1,5 @@
 -- After the table the types are those of the rule, or of the first type where there are no transitions.
-use Rattle.tz_zone.proofs.Common.{◌≡◌, arith, to_z-of_z, ℕ, rules, w64, refl, sym, length, ℤ, subst, ◌<◌, ap, ◌≤ℤ◌, Some, zone_of_data, ◌≤◌, LocalTimeType, ◌+◌, IsReachedAt, IsClock, eqb, MatchOption, nil_from_length, ◌^◌, IsTypeAfterTable, IsPositionOf}
+use Rattle.tz_zone.proofs.Common.{◌≡◌, arith, to_z-of_z, ℕ, rules, w64, refl, sym, length, ℤ, subst, ◌<◌, ap, ◌≤ℤ◌, Some, zone_of_data, ◌≤◌, LocalTimeType, ◌+◌, IsReachedAt, IsClock, eqb, MatchOption, nil_from_length, ◌^◌, IsTypeAfterTable, IsPositionOf, list_of, looks_of, one_look_more-one_more}
 use Rattle.tz_zone.proofs.Positions.{reached_at, clock_after_table, position_through}
 use Rattle.tz_zone.proofs.WindowTypes.{more_weaker, types_weaker}
 use Rattle.tz_zone.proofs.clock.window_types.window_types.Goals.{
@@ -9,14 +9,14 @@ use Rattle.tz_zone.proofs.clock.window_types.window_types.Goals.{
 use Rattle.tz_zone.proofs.clock.window_types.window_types.Goals as goal
 
 pub position_of-position-requires-clause-rising : goal.position_of-position-requires-clause-rising
-position_of-position-requires-clause-rising g c =
+position_of-position-requires-clause-rising c =
     rw (c.look-last.ensures.same, c.requires.view) (λ i. (c.args.zone.sound.transitions_are i).1)
 
 pub types_at_position-requires-clause-at : goal.types_at_position-requires-clause-at
-types_at_position-requires-clause-at g c = rw c.position_of-position.ensures.same c.position_of-position.ensures.at
+types_at_position-requires-clause-at c = rw c.position_of-position.ensures.same c.position_of-position.ensures.at
 
 pub returns-then-position-count-clause-position : goal.returns-then-position-count-clause-position
-returns-then-position-count-clause-position g c =
+returns-then-position-count-clause-position c =
     let z = zone_of_data c.args.zone in
     let low = c.args.low in
     let l = c.in-Some.low_leap_time in
@@ -28,13 +28,13 @@ returns-then-position-count-clause-position g c =
     (λ position is. subst (IsPositionOf z low) (sym is.0) (found.within, λ some. at)) c.types_at_position.ensures.more
 
 pub returns-then-position-count-clause-more : goal.returns-then-position-count-clause-more
-returns-then-position-count-clause-more g c =
-    let list = g.V.Transitions.list c.args.view.now in
-    let looks = g.V.Transitions.looks in
+returns-then-position-count-clause-more c =
+    let list = list_of c.args.view.now in
+    let looks = looks_of in
     let found = rw c.look-last.ensures.same at c.position_of-position.ensures in
     let start = looks c.args.view.now in
     let end = looks c.types_at_position.new.view in
-    let one_more = g.met.V.Transitions.one_more start in
+    let one_more = one_look_more-one_more start in
     more_weaker c.types_at_position.result _
     (λ position. MatchOption position (end ≤ start + 1) (λ k. (b : ℕ) → length list < 2 ^ b → end ≤ start + (b + 3)))
     (λ position is.
@@ -42,7 +42,7 @@ returns-then-position-count-clause-more g c =
     c.types_at_position.ensures.more
 
 pub returns-in_default-leap_time-clause-position : goal.returns-in_default-leap_time-clause-position
-returns-in_default-leap_time-clause-position g c =
+returns-in_default-leap_time-clause-position c =
     let l = c.in-Some.low_leap_time in
     let same = c.look-last.ensures.same in
     let found = rw (same, c.requires.view, to_z-of_z w64 l (search rules)) at c.position_of-position.ensures in
@@ -53,7 +53,7 @@ returns-in_default-leap_time-clause-position g c =
     )
 
 pub returns-clause-types : goal.returns-clause-types
-returns-clause-types g c =
+returns-clause-types c =
     let zone = c.args.zone in
     let z = zone_of_data zone in
     let low = c.args.low in
@@ -83,7 +83,7 @@ returns-clause-types g c =
     (rw (low_is, high_is) at c.types_after_table.ensures.types)
 
 pub returns-clause-position : goal.returns-clause-position
-returns-clause-position g c =
+returns-clause-position c =
     let z = zone_of_data c.args.zone in
     let low = c.args.low in
     let count : c.len-count.result ≡ length z.transitions = rw c.requires.view at c.len-count.ensures in
@@ -106,15 +106,15 @@ returns-clause-position g c =
     c.types_after_table.ensures.more
 
 pub returns-clause-more : goal.returns-clause-more
-returns-clause-more g c =
-    let list = g.V.Transitions.list c.args.view.now in
-    let looks = g.V.Transitions.looks in
+returns-clause-more c =
+    let list = list_of c.args.view.now in
+    let looks = looks_of in
     let start = looks c.args.view.now in
     let end = looks c.if-count-gt0.view in
     let few : (b : ℕ) → length list < 2 ^ b → end ≤ start + (b + 3) = elim c.if-count-gt0.branch [
       | then-count-gt0+in-Some+else-position-count+in-Some-leap_time w ↦ λ b less.
           let found = rw w.look-last.ensures.same at w.position_of-position.ensures in
-          let one_more = g.met.V.Transitions.one_more start in
+          let one_more = one_look_more-one_more start in
           omega (arith, ap looks w.view-is, found.at_most b less, w.look-last.ensures.counted, one_more)
       | else-count-gt0 w ↦ λ b less. omega (arith, ap looks w.view-is)
     ] in

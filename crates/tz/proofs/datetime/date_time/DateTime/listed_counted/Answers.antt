@@ -9,7 +9,7 @@ returns-clause-at_most c b w bits around =
     let looks = (rw (c.new-fields.ensures, to_z-of_z w32 c.args.year c.ranges.year) at c.in_ok-list.ensures).looks in
     let bits' = subst (λ (z : Zone). length z.transitions < 2 ^ b) (sym c.plain.ensures) bits in
     let around' = subst (λ (z : Zone). AtMostTakeEffectAround z (reading f) w) (sym c.plain.ensures) around in
-    omega (arith, looks.at_most b w bits' around', c.new-view.ensures.looks, c.looks.ensures)
+    omega (arith, looks.at_most b w bits' around', c.counted-view.ensures.looks, c.looks.ensures)
 
 pub returns-in_err-list-clause-outcome : goal.returns-in_err-list-clause-outcome
 returns-in_err-list-clause-outcome c =

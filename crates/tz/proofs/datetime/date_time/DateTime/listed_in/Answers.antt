@@ -4,7 +4,7 @@ use Rattle.tz.proofs.PlacedSlots.{held, filled_is_placed}
 use Rattle.tz.proofs.datetime.date_time.DateTime.listed_in.Goals as goal
 
 pub returns-in-Ok-clause-ok : goal.returns-in-Ok-clause-ok
-returns-in-Ok-clause-ok g c =
+returns-in-Ok-clause-ok c =
     let ok = c.in-Ok.ensures.ok in
     let new = c.new-writer.ensures in
     let holds = held Some c.new-writer.result c.find_in.new.list c.args.buf.now 0 ok.0 ok.1
