@@ -1,7 +1,8 @@
 #!/usr/bin/env python3
 """Writes the tables of docs/BENCHMARKS.md and its pictures from bench/figures.json, which bench/peers/run makes.
 
-usage: bench/tables.py
+usage: bench/tables.py          writes them
+       bench/tables.py --all    prints the tables that the page leaves out
 
 The status is 1 if a row in which tz is slower than a peer has no reason in bench/rows.py, or if a
 call takes more than its goal there; both are printed. Sizes are those of the repository's files.
@@ -297,8 +298,9 @@ def picture(title, kept, section):
     return '\n'.join([*out, '</svg>', ''])
 
 
-def write():
-    """Writes the tables into the page, each from its mark to the next empty line, and the pictures beside it. Gives what is wrong."""
+def write(words):
+    """Writes the tables into the page, each from its mark to the next empty line, and the pictures beside it; or prints those that have no mark there. Gives
+    what is wrong."""
     kept = figures.Figures(TOP / 'bench' / 'figures.json')
     reasons = Reasons()
     made = {
@@ -315,6 +317,9 @@ def write():
     }
     made['reasons'] = reasons.shown()
     page = PAGE.read_text()
+    if words == ['--all']:
+        print(*(f'## {name}\n\n{text}\n' for name, text in made.items() if f'<!-- {name} -->' not in page), sep='\n')
+        return []
     for name, text in made.items():
         page = re.sub(rf'(<!-- {name} -->).*?(?=\n\n|\n?\Z)', lambda found: f'{found[1]}\n{text}'.rstrip(), page, flags=re.DOTALL)
     PAGE.write_text(page)
@@ -324,6 +329,8 @@ def write():
 
 
 if __name__ == '__main__':
-    wrong = write()
+    if sys.argv[1:] not in ([], ['--all']):
+        sys.exit(__doc__)
+    wrong = write(sys.argv[1:])
     print(*wrong, sep='\n', end='\n' if wrong else '')
     sys.exit(int(bool(wrong)))
