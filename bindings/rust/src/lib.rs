@@ -97,16 +97,14 @@ mod refused;
 
 // The program and the C library are made over the crate's inner calls. These have conditions that only proofs check, and may change at any time.
 #[cfg(not(feature = "inner"))]
-#[allow(dead_code, unused_imports, unused_variables)]
-#[allow(clippy::all)]
+#[allow(clippy::all, dead_code, unused_imports, unused_variables)]
 #[deny(clippy::incompatible_msrv)]
 mod proved;
 #[cfg(feature = "inner")]
 #[doc(hidden)]
-#[allow(dead_code, missing_docs, unused_imports, unused_variables)]
+#[allow(clippy::all, clippy::must_use_candidate, dead_code, missing_docs)]
 // Docs of what the crate does not have here name laws.
-#[allow(rustdoc::broken_intra_doc_links)]
-#[allow(clippy::all, clippy::must_use_candidate)]
+#[allow(rustdoc::broken_intra_doc_links, unused_imports, unused_variables)]
 #[deny(clippy::incompatible_msrv)]
 pub mod proved;
 #[cfg(not(feature = "inner"))]

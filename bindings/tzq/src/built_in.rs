@@ -14,8 +14,11 @@ use tz_zones::{NAMES, VERSION};
 /// The program's version.
 const RELEASE: &str = env!("CARGO_PKG_VERSION");
 
+/// A function that reads the file at a path.
+type Reader = fn(&str) -> Result<Bytes<u8>, ReadFault>;
+
 /// Whether the text is no name of a file of zones that can be read.
-fn has_no_file(text: &str, reader: impl Fn(&str) -> Result<Bytes<u8>, ReadFault>) -> bool {
+fn has_no_file(text: &str, reader: Reader) -> bool {
     // A file is only looked for here: that it is one of a zone is seen when the zone is made of it.
     let finder = |path: &str| reader(path).map(|_| Bytes::new(Global));
     matches!(TimeZone::named(Global, finder, text), Err(Error::Io(_)))
@@ -25,7 +28,7 @@ fn has_no_file(text: &str, reader: impl Fn(&str) -> Result<Bytes<u8>, ReadFault>
 /// no file can be read, its usage, its version and the names of zones.
 pub fn answer(
     arguments: &[&str],
-    reader: impl Fn(&str) -> Result<Bytes<u8>, ReadFault>,
+    reader: Reader,
     input: &mut impl Read,
     out: &mut impl Write,
     err: &mut impl Write,
@@ -62,11 +65,7 @@ fn distance(text: &str, name: &str) -> usize {
 
 /// Says of a text that is no TZ string that no zone has it as its name, and the nearest names, if it
 /// has the form of one.
-pub fn print_nearest(
-    text: &str,
-    reader: impl Fn(&str) -> Result<Bytes<u8>, ReadFault>,
-    err: &mut impl Write,
-) {
+pub fn print_nearest(text: &str, reader: Reader, err: &mut impl Write) {
     if !is_zone_name(text) || text.len() > 64 || !has_no_file(text, reader) {
         return;
     }
@@ -76,11 +75,7 @@ pub fn print_nearest(
     };
     let least = NAMES.iter().map(|name| far(&name)).min();
     let nearest = NAMES.iter().filter(|name| Some(far(name)) == least);
-    let nearest: Vec<&str> = nearest.take(3).copied().collect();
+    let nearest = nearest.take(3).copied().collect::<Vec<_>>().join(", ");
     // Nothing is left to say it by if this cannot be written.
-    let _ = writeln!(
-        err,
-        "tzq: no zone has this name; near it: {}",
-        nearest.join(", ")
-    );
+    let _ = writeln!(err, "tzq: no zone has this name; near it: {nearest}");
 }
