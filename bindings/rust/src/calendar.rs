@@ -1,5 +1,5 @@
-//! The proleptic Gregorian calendar: leap years and the lengths of months. [`Date`](crate::Date) has
-//! the rest.
+//! The proleptic Gregorian calendar: leap years and the lengths of months. [`Date`] has the
+//! rest.
 
 pub use crate::proved::tz_civil::calendar::{days_in_month, is_leap_year};
 use crate::{Date, ParseDateTimeError};

@@ -37,7 +37,7 @@
 //!
 //! | to | call |
 //! |---|---|
-//! | get a zone by its name, or of a file's bytes | `TimeZone::named`, `TimeZone::from_tz_data` |
+//! | get a zone by its name, or from a file's bytes | `TimeZone::named`, `TimeZone::from_tz_data` |
 //! | get what clocks show at an instant | [`DateTime::from_timespec`], [`UtcDateTime::from_timespec`] |
 //! | get the offset alone | [`TimeZoneRef::find_local_time_type`] |
 //! | choose one instant of a local time | [`DateTime::from_local`], [`DateTime::find_one`] |
@@ -47,7 +47,7 @@
 //! | get a span of time in which the clock does not change | [`TimeZoneRef::segment_at`] |
 //! | convert many values | [`TimeZoneRef::offsets_at`], [`TimeZoneRef::instants_of`] |
 //! | go from one date to another, or to the start of a day | [`Date`], [`TimeZoneRef::start_of_day`] |
-//! | print by a pattern | [`DateTime::format`], with [`pattern!`] |
+//! | print by a pattern, or read by one | [`DateTime::format`], with [`pattern!`]; [`Pattern::read`](format::Pattern::read) |
 //! | read RFC 3339 | [`ParsedDateTime::parse`] |
 //!
 //! An instant is a Unix time, an `i64` of seconds since 1970-01-01T00:00:00Z. A [`DateTime`] is what clocks show at an instant, with its offset and without
@@ -63,8 +63,8 @@
 //!
 //! # Errors and panics
 //!
-//! Whatever the arguments, calls return errors. What can panic says so: `+` and `-` of a duration (as std's do), conversions into a `SystemTime`, and copies
-//! that allocate. Bytes of a file, TZ strings and texts may come from anyone.
+//! Bytes of a file, TZ strings, texts and numbers may come from anyone: a call that cannot answer returns an error. Only `+` and `-` of a duration (as
+//! std's), conversions into a `SystemTime`, and copies that allocate can panic, and their docs say so.
 //!
 //! # What is proved
 //!
