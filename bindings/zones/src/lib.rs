@@ -73,6 +73,7 @@ pub static NAMES: &[&str] = &{
 /// assert_eq!(named("Europe/Paris"), Some(europe::PARIS));
 /// assert_eq!(named("europe/paris"), None);
 /// ```
+#[must_use]
 pub fn named(name: &str) -> Option<TimeZoneRef<'static>> {
     let found = ENTRIES.binary_search_by(|(other, _)| (*other).cmp(name));
     found.ok().map(|place| *ENTRIES[place].1)
