@@ -1,13 +1,14 @@
 -- What is read of the texts of conversions.
 use Rattle.std.proofs.Common.{arith, refl, ◌≡◌, ◌∙◌, ap, sym, [], ℕ, zero, suc, ◌∷◌, ◌<◌, ◌≤◌, length, ◌+◌, ◌-◌, ◌*◌, ◌++◌, ◌/◌, ◌%◌, List, drop, true, false, ℤ, pos, negsuc}
 use Rattle.std.specs.Prelude.{unsigned_abs, neg_ℤ, slice_index}
-use Rattle.std.proofs.lemmas.Bool.{lt-ltb}
+use Rattle.std.proofs.lemmas.Bool.{cases_lt, lt-ltb, le-ltb}
+use Rattle.std.proofs.Common.{inl, inr}
 use Rattle.std.proofs.Math.Seq.{drop-append_seam}
 use Rattle.tz.specs.PrintedText.{last_digits, two_digits, two_digits_or_more}
 use Rattle.tz.proofs.PrintedDigits.{two_digits-below}
 use Rattle.tz_format.specs.Names.{month_name, week_day_name, short}
 use Rattle.tz_format.specs.Shown.{Shown}
-use Rattle.tz_format.specs.Texts.{conversion_text, year_text, four_digits_or_more, hours_and_minutes, offset_digits}
+use Rattle.tz_format.specs.Texts.{spaced_digits, conversion_text, year_text, four_digits_or_more, hours_and_minutes, offset_digits}
 use Rattle.tz_format.specs.Weeks.{week_day}
 use Rattle.tz_format.specs.Readings.{IsPlain, digit, pair, month_of, offset_read, value_read, value, part_of, read_width}
 use Rattle.tz_format.specs.declared.conversion.Conversion.{Conversion}
@@ -159,6 +160,30 @@ unfolding offset_digits
 colon_width (pos n) m below is = rw (colon_bytes n m below is) refl
 colon_width (negsuc n) m below is = rw (colon_bytes (suc n) m below is) refl
 
+two_length : (n : ℕ) → length (two_digits n) ≡ 2
+unfolding two_digits
+two_length n = refl
+
+-- two bytes, of which the first can be a space
+spaced_value : (n : ℕ) (after : List ℕ) → n < 100 → pair (spaced_digits n ++ after) 0 ≡ n
+unfolding spaced_digits
+spaced_value n after below = elim (cases_lt n 10) [
+  | inl few ↦ rw (lt-ltb n 10 few) (omega arith)
+  | inr many ↦ rw (le-ltb n 10 many, two_digits-below n below) (omega arith)
+]
+
+spaced_width : (n : ℕ) → n < 100 → length (spaced_digits n) ≡ 2
+unfolding spaced_digits
+spaced_width n below = elim (cases_lt n 10) [
+  | inl few ↦ rw (lt-ltb n 10 few) refl
+  | inr many ↦ rw (le-ltb n 10 many, two_digits-below n below) refl
+]
+
+thousandths_value : (n : ℕ) (after : List ℕ) → n < 1000
+    → 100 * digit (last_digits 3 n ++ after) 0 + pair (last_digits 3 n ++ after) 1 ≡ n
+thousandths_value n after below =
+    ap (λ xs. 100 * digit (xs ++ after) 0 + pair (xs ++ after) 1) (three_bytes n below) ∙ omega (arith, below)
+
 two_width : (n : ℕ) → n < 100 → length (two_digits n) ≡ 2
 two_width n below = rw (two_digits-below n below) refl
 
@@ -190,9 +215,11 @@ value_is s YearOfCentury after plain shows = absurd (omega (arith, shows))
 value_is s WeekYear after plain shows = absurd (omega (arith, shows))
 value_is s WeekYearOfCentury after plain shows = absurd (omega (arith, shows))
 value_is s MonthName after plain shows = absurd (omega (arith, shows))
-value_is s SpacedMonthDay after plain shows = absurd (omega (arith, shows))
+value_is s SpacedMonthDay after plain shows =
+    ap pos (spaced_value s.fields.month_day after (omega (arith, plain.shown.valid.in_range.month_day.1)))
 value_is s YearDay after plain shows = absurd (omega (arith, shows))
-value_is s SpacedHour after plain shows = absurd (omega (arith, shows))
+value_is s SpacedHour after plain shows =
+    ap pos (spaced_value s.fields.hour after (omega (arith, plain.shown.valid.in_range.hour)))
 value_is s HalfDayHour after plain shows = absurd (omega (arith, shows))
 value_is s HalfDay after plain shows = absurd (omega (arith, shows))
 value_is s WeekDayName after plain shows = absurd (omega (arith, shows))
@@ -207,7 +234,8 @@ value_is s Date after plain shows = absurd (omega (arith, shows))
 value_is s DateWithSlashes after plain shows = absurd (omega (arith, shows))
 value_is s Time after plain shows = absurd (omega (arith, shows))
 value_is s TimeToMinutes after plain shows = absurd (omega (arith, shows))
-value_is s Milliseconds after plain shows = absurd (omega (arith, shows))
+value_is s Milliseconds after plain shows =
+    ap pos (thousandths_value (s.fields.nanoseconds / 1000000) after (thousandths s plain))
 value_is s Microseconds after plain shows = absurd (omega (arith, shows))
 value_is s Nanoseconds after plain shows = absurd (omega (arith, shows))
 value_is s PointMicroseconds after plain shows = absurd (omega (arith, shows))
@@ -241,24 +269,25 @@ width_is s YearOfCentury plain read = absurd (omega (arith, read))
 width_is s WeekYear plain read = absurd (omega (arith, read))
 width_is s WeekYearOfCentury plain read = absurd (omega (arith, read))
 width_is s MonthName plain read = absurd (omega (arith, read))
-width_is s SpacedMonthDay plain read = absurd (omega (arith, read))
+width_is s SpacedMonthDay plain read =
+    spaced_width s.fields.month_day (omega (arith, plain.shown.valid.in_range.month_day.1))
 width_is s YearDay plain read = absurd (omega (arith, read))
-width_is s SpacedHour plain read = absurd (omega (arith, read))
+width_is s SpacedHour plain read = spaced_width s.fields.hour (omega (arith, plain.shown.valid.in_range.hour))
 width_is s HalfDayHour plain read = absurd (omega (arith, read))
 width_is s HalfDay plain read = absurd (omega (arith, read))
 width_is s WeekDayName plain read = absurd (omega (arith, read))
-width_is s WeekDayFromMonday plain read = absurd (omega (arith, read))
-width_is s WeekDayFromSunday plain read = absurd (omega (arith, read))
-width_is s WeekNumber plain read = absurd (omega (arith, read))
-width_is s WeekFromSunday plain read = absurd (omega (arith, read))
-width_is s WeekFromMonday plain read = absurd (omega (arith, read))
+width_is s WeekDayFromMonday plain read = refl
+width_is s WeekDayFromSunday plain read = refl
+width_is s WeekNumber plain read = two_length _
+width_is s WeekFromSunday plain read = two_length _
+width_is s WeekFromMonday plain read = two_length _
 width_is s UnixTime plain read = absurd (omega (arith, read))
 width_is s Designation plain read = absurd (omega (arith, read))
 width_is s Date plain read = absurd (omega (arith, read))
 width_is s DateWithSlashes plain read = absurd (omega (arith, read))
 width_is s Time plain read = absurd (omega (arith, read))
 width_is s TimeToMinutes plain read = absurd (omega (arith, read))
-width_is s Milliseconds plain read = absurd (omega (arith, read))
+width_is s Milliseconds plain read = milliseconds_width (s.fields.nanoseconds / 1000000) (thousandths s plain)
 width_is s Microseconds plain read = absurd (omega (arith, read))
 width_is s Nanoseconds plain read = absurd (omega (arith, read))
 width_is s PointMicroseconds plain read = absurd (omega (arith, read))

@@ -7,7 +7,7 @@ use Rattle.tz_format.specs.Shown.{Shown, IsShown}
 use Rattle.tz_format.specs.declared.read.ReadPatternError.{ReadPatternError}
 use Rattle.tz_format.specs.declared.read.ReadPatternError.TheVariants.{NotReadable, Mismatch}
 use Rattle.tz_format.specs.declared.conversion.Conversion.{Conversion}
-use Rattle.tz_format.specs.declared.conversion.Conversion.TheVariants.{Year, Month, ShortMonthName, MonthDay, Hour, Minute, Second, ShortWeekDayName, Offset, OffsetWithColon, PointMilliseconds, LineFeed, Tab, Percent}
+use Rattle.tz_format.specs.declared.conversion.Conversion.TheVariants.{Year, Month, ShortMonthName, MonthDay, Hour, Minute, Second, ShortWeekDayName, Offset, OffsetWithColon, PointMilliseconds, LineFeed, Tab, Percent, SpacedMonthDay, SpacedHour, Milliseconds, WeekDayFromMonday, WeekDayFromSunday, Week, WeekFromSunday, WeekFromMonday}
 
 -- the bytes of a conversion that is read, which are as many whatever the date time; 0 of others
 unfoldable pub read_width : Conversion → ℕ
@@ -15,12 +15,20 @@ read_width Year = 4
 read_width Month = 2
 read_width ShortMonthName = 3
 read_width MonthDay = 2
+read_width SpacedMonthDay = 2
 read_width Hour = 2
+read_width SpacedHour = 2
 read_width Minute = 2
 read_width Second = 2
 read_width ShortWeekDayName = 3
+read_width WeekDayFromMonday = 1
+read_width WeekDayFromSunday = 1
+read_width Week = 2
+read_width WeekFromSunday = 2
+read_width WeekFromMonday = 2
 read_width Offset = 5
 read_width OffsetWithColon = 6
+read_width Milliseconds = 3
 read_width PointMilliseconds = 4
 read_width LineFeed = 1
 read_width Tab = 1
@@ -45,9 +53,12 @@ part_of Year = 0
 part_of Month = 1
 part_of ShortMonthName = 1
 part_of MonthDay = 2
+part_of SpacedMonthDay = 2
 part_of Hour = 3
+part_of SpacedHour = 3
 part_of Minute = 4
 part_of Second = 5
+part_of Milliseconds = 6
 part_of PointMilliseconds = 6
 part_of Offset = 7
 part_of OffsetWithColon = 7
@@ -82,6 +93,7 @@ unfoldable pub value_read : Conversion → List ℕ → ℤ
 value_read Year text = pos (100 * pair text 0 + pair text 2)
 value_read ShortMonthName text =
     pos (month_of (slice_index text 0) (slice_index text 1) (slice_index text 2))
+value_read Milliseconds text = pos (100 * digit text 0 + pair text 1)
 value_read PointMilliseconds text = pos (100 * digit text 1 + pair text 2)
 value_read Offset text = offset_read text 3
 value_read OffsetWithColon text = offset_read text 4

@@ -26,13 +26,22 @@ fn read_width(conversion: Conversion) -> usize {
         Conversion::Year | Conversion::PointMilliseconds => 4,
         Conversion::Month
         | Conversion::MonthDay
+        | Conversion::SpacedMonthDay
         | Conversion::Hour
+        | Conversion::SpacedHour
         | Conversion::Minute
-        | Conversion::Second => 2,
-        Conversion::ShortMonthName | Conversion::ShortWeekDayName => 3,
+        | Conversion::Second
+        | Conversion::Week
+        | Conversion::WeekFromSunday
+        | Conversion::WeekFromMonday => 2,
+        Conversion::ShortMonthName | Conversion::ShortWeekDayName | Conversion::Milliseconds => 3,
         Conversion::Offset => 5,
         Conversion::OffsetWithColon => 6,
-        Conversion::LineFeed | Conversion::Tab | Conversion::Percent => 1,
+        Conversion::WeekDayFromMonday
+        | Conversion::WeekDayFromSunday
+        | Conversion::LineFeed
+        | Conversion::Tab
+        | Conversion::Percent => 1,
         _ => 0,
     }
 }
@@ -42,11 +51,11 @@ fn part_of(conversion: Conversion) -> usize {
     match conversion {
         Conversion::Year => 0,
         Conversion::Month | Conversion::ShortMonthName => 1,
-        Conversion::MonthDay => 2,
-        Conversion::Hour => 3,
+        Conversion::MonthDay | Conversion::SpacedMonthDay => 2,
+        Conversion::Hour | Conversion::SpacedHour => 3,
         Conversion::Minute => 4,
         Conversion::Second => 5,
-        Conversion::PointMilliseconds => 6,
+        Conversion::Milliseconds | Conversion::PointMilliseconds => 6,
         Conversion::Offset | Conversion::OffsetWithColon => 7,
         _ => 8,
     }
@@ -133,6 +142,7 @@ fn value_at(conversion: Conversion, text: &[u8]) -> i32 {
             byte_at(text, 1),
             byte_at(text, 2),
         )),
+        Conversion::Milliseconds => (100 * digit_at(text, 0) + pair_at(text, 1)) as i32,
         Conversion::PointMilliseconds => (100 * digit_at(text, 1) + pair_at(text, 2)) as i32,
         Conversion::Offset => offset_at(text, 3),
         Conversion::OffsetWithColon => offset_at(text, 4),
@@ -274,7 +284,8 @@ impl Pattern<'_> {
     /// # Errors
     ///
     /// [`ReadPatternError::NotReadable`] if the pattern has another conversion than `%Y`, `%m`,
-    /// `%b`, `%h`, `%d`, `%H`, `%M`, `%S`, `%.3f`, `%a`, `%z`, `%:z`, `%n`, `%t` and `%%`, or else
+    /// `%b`, `%h`, `%d`, `%e`, `%H`, `%k`, `%M`, `%S`, `%3f`, `%.3f`, `%z`, `%:z`, those that the
+    /// date determines, `%a`, `%u`, `%w`, `%V`, `%U` and `%W`, and `%n`, `%t` and `%%`; or else
     /// [`ReadPatternError::Mismatch`] if it prints the text of no such date time.
     pub fn read(&self, text: &[u8]) -> Result<ReadDateTime, ReadPatternError> {
         let Some(guess) = read_parts(self.as_str().as_bytes(), text) else {
