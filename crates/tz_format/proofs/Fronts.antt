@@ -59,7 +59,8 @@ month_value (suc (suc (suc (suc (suc (suc (suc (suc (suc zero))))))))) after fro
 month_value (suc (suc (suc (suc (suc (suc (suc (suc (suc (suc zero)))))))))) after from to = refl
 month_value (suc (suc (suc (suc (suc (suc (suc (suc (suc (suc (suc zero))))))))))) after from to = refl
 month_value (suc (suc (suc (suc (suc (suc (suc (suc (suc (suc (suc (suc zero)))))))))))) after from to = refl
-month_value (suc (suc (suc (suc (suc (suc (suc (suc (suc (suc (suc (suc (suc m))))))))))))) after from to = absurd (omega (arith, to))
+month_value (suc (suc (suc (suc (suc (suc (suc (suc (suc (suc (suc (suc (suc m))))))))))))) after from to =
+    absurd (omega (arith, to))
 
 month_width : (m : ℕ) → 1 ≤ m → m ≤ 12 → length (short (month_name m)) ≡ 3
 month_width zero from to = absurd (omega (arith, from))
@@ -75,7 +76,8 @@ month_width (suc (suc (suc (suc (suc (suc (suc (suc (suc zero))))))))) from to =
 month_width (suc (suc (suc (suc (suc (suc (suc (suc (suc (suc zero)))))))))) from to = refl
 month_width (suc (suc (suc (suc (suc (suc (suc (suc (suc (suc (suc zero))))))))))) from to = refl
 month_width (suc (suc (suc (suc (suc (suc (suc (suc (suc (suc (suc (suc zero)))))))))))) from to = refl
-month_width (suc (suc (suc (suc (suc (suc (suc (suc (suc (suc (suc (suc (suc m))))))))))))) from to = absurd (omega (arith, to))
+month_width (suc (suc (suc (suc (suc (suc (suc (suc (suc (suc (suc (suc (suc m))))))))))))) from to =
+    absurd (omega (arith, to))
 
 week_day_width : (d : ℕ) → d < 7 → length (short (week_day_name d)) ≡ 3
 week_day_width zero below = refl
@@ -210,7 +212,8 @@ value_is s Second after plain shows =
 value_is s PointMilliseconds after plain shows =
     ap pos (milliseconds_value (s.fields.nanoseconds / 1000000) after (thousandths s plain))
 value_is s Offset after plain shows = offset_value s.ut_offset plain.offset.0 after plain.offset.1 plain.offset.2
-value_is s OffsetWithColon after plain shows = colon_value s.ut_offset plain.offset.0 after plain.offset.1 plain.offset.2
+value_is s OffsetWithColon after plain shows =
+    colon_value s.ut_offset plain.offset.0 after plain.offset.1 plain.offset.2
 value_is s YearOfCentury after plain shows = absurd (omega (arith, shows))
 value_is s WeekYear after plain shows = absurd (omega (arith, shows))
 value_is s WeekYearOfCentury after plain shows = absurd (omega (arith, shows))

@@ -16,7 +16,8 @@ use Rattle.tz_format.proofs.Items.{byte_item, unknown_item, converted_item, no_i
 
 -- of each date time that the text can be of, what is left of the text is what the rest of the
 -- pattern prints, and the parts are those that the rest does not show
-pub record IsReadUpTo (pattern text : List ℕ) (position : ℕ) (left : List ℕ) (values : List ℤ) (shown : Bool) : Type 0 where
+pub record IsReadUpTo (pattern text : List ℕ) (position : ℕ) (left : List ℕ) (values : List ℤ)
+    (shown : Bool) : Type 0 where
   pub within : position ≤ length pattern
   pub known : first_unknown (items_of (drop position pattern)) ≡ None
   pub readable : are_read (items_of pattern) ≡ are_read (items_of (drop position pattern))
@@ -136,15 +137,18 @@ conversion_read pattern text position left values shown c spelled h within perce
       left_is = λ s reading. ap (drop (read_width c)) (left_at s reading)
           ∙ after_is s c (texts s rest) reading.plain some;
       values_are = λ s reading k below none. at_part (part_of c) k (value_read c left) (value s k) values
-          (λ here. ap (value_read c) (left_at s reading) ∙ value_is s c (texts s rest) reading.plain (omega (arith, below, here))
+          (λ here. ap (value_read c) (left_at s reading)
+          ∙ value_is s c (texts s rest) reading.plain (omega (arith, below, here))
           ∙ ap (value s) here)
-          (λ other. h.values_are s reading k below (ap (are_shown k) item ∙ ap (λ b. b || are_shown k rest) other ∙ none))
+          (λ other. h.values_are s reading k below
+          (ap (are_shown k) item ∙ ap (λ b. b || are_shown k rest) other ∙ none))
           (omega (arith, part, h.long));
       hidden = λ k below none.
           let before = h.hidden k below none in
           let parts = or_none (part_of c == k) (are_shown k rest) (sym (ap (are_shown k) item) ∙ before.0) in
           (parts.1, same k parts.0 ∙ before.1);
-      offset = h.offset ∙ ap (λ b. shown || b) (ap (are_shown 7) item) ∙ or_assoc shown (part_of c == 7) (are_shown 7 rest);
+      offset = h.offset ∙ ap (λ b. shown || b) (ap (are_shown 7) item)
+          ∙ or_assoc shown (part_of c == 7) (are_shown 7 rest);
     }
 
 pub all_read : (pattern text : List ℕ) (position : ℕ) (left : List ℕ) (values : List ℤ) (shown : Bool)

@@ -146,8 +146,8 @@ impl<'a> LenientDateTime<'a> {
     ///
     /// # Errors
     ///
-    /// [`LenientDateTimeError::ZoneName`], or else [`LenientDateTimeError::DateTime`] with the first
-    /// part that RFC 3339 has and the local time does not, and its position.
+    /// [`LenientDateTimeError::ZoneName`], or else [`LenientDateTimeError::DateTime`] with the
+    /// first part that RFC 3339 has and the local time does not, and its position.
     pub fn parse(text: &'a [u8]) -> Result<Self, LenientDateTimeError>
         ensures ok { IfOk result (λ d. IsLenientText text.now d.date_time d.zone_name.now) }
         ensures err { IfErr result (IsLenientFault text.now) }

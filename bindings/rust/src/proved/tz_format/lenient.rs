@@ -114,8 +114,8 @@ impl<'a> LenientDateTime<'a> {
     ///
     /// # Errors
     ///
-    /// [`LenientDateTimeError::ZoneName`], or else [`LenientDateTimeError::DateTime`] with the first
-    /// part that RFC 3339 has and the local time does not, and its position.
+    /// [`LenientDateTimeError::ZoneName`], or else [`LenientDateTimeError::DateTime`] with the
+    /// first part that RFC 3339 has and the local time does not, and its position.
     pub fn parse(text: &'a [u8]) -> Result<Self, LenientDateTimeError> {
         let Some(zoned) = split_zone(text) else {
             return Err(LenientDateTimeError::ZoneName);
