@@ -1,7 +1,10 @@
-//! Patterns: what each conversion prints, and which texts are patterns.
+//! Patterns: what each conversion prints, which texts are patterns, and what is read; and local
+//! times as people write them.
 #![cfg(feature = "alloc")]
 
-use tz::format::{Pattern, PatternError, UtcPattern};
+use tz::format::{
+    LenientDateTime, LenientDateTimeError, Pattern, PatternError, ReadPatternError, UtcPattern,
+};
 use tz::{DateTime, LocalTimeType, UtcDateTime, pattern};
 
 /// What a pattern prints of a date time of UTC.
@@ -295,4 +298,267 @@ fn widths_of_formats_play_no_part() {
         format!("<{:>30}>", date_time.format(pattern!("%F"))),
         "<2000-01-02>"
     );
+}
+
+/// The local time and the offset that a pattern reads of a text.
+fn read(pattern: Pattern<'_>, text: &[u8]) -> Result<(String, Option<i32>), ReadPatternError> {
+    let read = pattern.read(text)?;
+    Ok((read.local().to_string(), read.ut_offset()))
+}
+
+#[test]
+fn constants_read_what_they_print() {
+    let http_date = UtcPattern::HTTP_DATE.pattern();
+    let dates = pattern!("%Y%m%d");
+    let spaced = pattern!("%a %e %b %Y %k:%M:%S,%3f");
+    let weeks = pattern!("%u %w %V %U %W %d.%m.%Y");
+    let rows = [
+        (
+            Pattern::COMMON_LOG,
+            "10/Oct/2000:13:55:36 -0700",
+            "2000-10-10T13:55:36.000000000Z",
+            Some(-25_200),
+        ),
+        (
+            Pattern::COMMON_LOG,
+            "29/Feb/0000:23:59:60 +9959",
+            "0-02-29T23:59:60.000000000Z",
+            Some(359_940),
+        ),
+        (
+            Pattern::COMMON_LOG,
+            "31/Dec/9999:00:00:00 -9959",
+            "9999-12-31T00:00:00.000000000Z",
+            Some(-359_940),
+        ),
+        (
+            Pattern::RFC_2822,
+            "Fri, 21 Nov 1997 09:55:06 -0600",
+            "1997-11-21T09:55:06.000000000Z",
+            Some(-21_600),
+        ),
+        (
+            Pattern::RFC_3339_MILLIS,
+            "2000-11-03T05:06:07.089+01:00",
+            "2000-11-03T05:06:07.089000000Z",
+            Some(3600),
+        ),
+        (
+            http_date,
+            "Sun, 06 Nov 1994 08:49:37 GMT",
+            "1994-11-06T08:49:37.000000000Z",
+            None,
+        ),
+        (dates, "20001103", "2000-11-03T00:00:00.000000000Z", None),
+        (
+            spaced,
+            "Fri  3 Nov 2000  5:06:07,089",
+            "2000-11-03T05:06:07.089000000Z",
+            None,
+        ),
+        (
+            weeks,
+            "5 5 44 44 44 03.11.2000",
+            "2000-11-03T00:00:00.000000000Z",
+            None,
+        ),
+    ];
+    for (pattern, text, local, offset) in rows {
+        assert_eq!(
+            read(pattern, text.as_bytes()),
+            Ok((local.to_string(), offset)),
+            "{text}"
+        );
+    }
+}
+
+#[test]
+fn each_month_is_read() {
+    let dates = pattern!("%d %b %Y");
+    for month in 1..=12 {
+        let date = utc(2026, month, 5, 0, 0, 0);
+        let text = date.format(dates).to_string();
+        assert_eq!(
+            dates.read(text.as_bytes()).map(|read| read.local()),
+            Ok(date),
+            "{text}"
+        );
+    }
+}
+
+#[test]
+fn other_texts_are_not_read() {
+    let texts = [
+        "",
+        "10/Oct/2000:13:55:36",
+        "10/Oct/2000:13:55:36 -0000",
+        "10/oct/2000:13:55:36 -0700",
+        "3/Nov/2000:13:55:36 -0700",
+        "30/Feb/2000:13:55:36 -0700",
+        "10/Oct/2000:24:00:00 -0700",
+        "10/Oct/2000:13:60:00 -0700",
+        "10/Oct/2000:13:59:61 -0700",
+        "10/Oct/2000:13:55:36 -0760",
+        "10/Oct/20000:13:55:36 -0700",
+        "10/Okt/2000:13:55:36 -0700",
+        "٠١/Oct/2000:13:55:36 -0700",
+        "10/Oct/2000:13:55:36 \0\0\0\0\0",
+        "10/Oct/2000:13:55:36 Z",
+    ];
+    let long = "1".repeat(10_000_000);
+    for text in texts.into_iter().chain([long.as_str()]) {
+        let read = Pattern::COMMON_LOG.read(text.as_bytes());
+        assert_eq!(read.err(), Some(ReadPatternError::Mismatch), "{:.40}", text);
+    }
+    // A Friday is no Saturday.
+    let mail = Pattern::RFC_2822.read(b"Sat, 21 Nov 1997 09:55:06 -0600");
+    assert_eq!(mail.err(), Some(ReadPatternError::Mismatch));
+    for conversion in [
+        "%A", "%B", "%F", "%G", "%I", "%T", "%Z", "%j", "%s", "%y", "%6f",
+    ] {
+        let pattern = format!("%Y-%m-%d {conversion}");
+        let read = Pattern::new(&pattern).unwrap().read(b"");
+        assert_eq!(
+            read.err(),
+            Some(ReadPatternError::NotReadable),
+            "{conversion}"
+        );
+    }
+}
+
+/// A text that is read prints as it stands: whatever one byte of it is, and with a byte less or more.
+#[test]
+fn what_is_read_is_printed_again() {
+    let text = b"2000-11-03T05:06:07.089+01:00";
+    let pattern = Pattern::RFC_3339_MILLIS;
+    for position in 0..text.len() {
+        for byte in 0..=255 {
+            let mut altered = text.to_vec();
+            altered[position] = byte;
+            if let Ok(read) = pattern.read(&altered) {
+                let offset = read.ut_offset().unwrap();
+                let local_time_type = LocalTimeType::new(offset, false, None).unwrap();
+                let unix_time = read.local().unix_time() - i64::from(offset);
+                let date_time = DateTime::from_timespec_and_local(
+                    unix_time,
+                    read.local().nanoseconds(),
+                    local_time_type,
+                )
+                .unwrap();
+                assert_eq!(date_time.format(pattern).to_string().as_bytes(), altered);
+            }
+        }
+        let mut less = text.to_vec();
+        less.remove(position);
+        assert_eq!(pattern.read(&less).err(), Some(ReadPatternError::Mismatch));
+        let mut more = text.to_vec();
+        more.insert(position, b'0');
+        assert_eq!(pattern.read(&more).err(), Some(ReadPatternError::Mismatch));
+    }
+}
+
+#[test]
+fn parts_of_local_times_may_be_left_out() {
+    let midnight = "2000-11-03T00:00:00.000000000Z";
+    let minute = "2000-11-03T05:06:00.000000000Z";
+    let paris = Some("Europe/Paris");
+    let rows = [
+        ("2000-11-03", midnight, None, None),
+        ("2000-11-03[Europe/Paris]", midnight, None, paris),
+        ("2000-11-03T05:06", minute, None, None),
+        ("2000-11-03 05:06Z", minute, Some(0), None),
+        ("2000-11-03t05:06+01:00", minute, Some(3600), None),
+        (
+            "2000-11-03T05:06-01:00[Etc/GMT+1]",
+            minute,
+            Some(-3600),
+            Some("Etc/GMT+1"),
+        ),
+        (
+            "2000-11-03T05:06:07,089",
+            "2000-11-03T05:06:07.089000000Z",
+            None,
+            None,
+        ),
+        (
+            "2000-11-03T05:06:07.5+01:00[Europe/Paris]",
+            "2000-11-03T05:06:07.500000000Z",
+            Some(3600),
+            paris,
+        ),
+        (
+            "-0001-11-03T05:06",
+            "-1-11-03T05:06:00.000000000Z",
+            None,
+            None,
+        ),
+    ];
+    for (text, local, offset, name) in rows {
+        let read = LenientDateTime::parse(text.as_bytes()).unwrap();
+        assert_eq!(read.date_time().local().to_string(), local, "{text}");
+        assert_eq!(read.date_time().ut_offset(), offset, "{text}");
+        assert_eq!(read.zone_name(), name.map(str::as_bytes), "{text}");
+    }
+}
+
+#[test]
+fn other_local_times_are_refused() {
+    let texts = [
+        "",
+        "2000-11",
+        "2000-11-03T",
+        "2000-11-03T05",
+        "2000-11-03T05:6",
+        "2000-11-03T05:06.5",
+        "2000-11-03T05:06,5",
+        "2000-11-03T05:06:07,",
+        "2000-11-03T05:06:7,5",
+        "2000-11-03Z",
+        "2000-11-31",
+        "2000-11-03T05:60",
+        "2000-11-03T05:06x",
+        "[Europe/Paris]",
+    ];
+    for text in texts {
+        let error = LenientDateTime::parse(text.as_bytes()).err();
+        assert!(
+            matches!(error, Some(LenientDateTimeError::DateTime(_))),
+            "{text}: {error:?}"
+        );
+    }
+    for suffix in [
+        "[",
+        "[]",
+        "[Europe/Paris",
+        "[Europe/Paris]x",
+        "[!Europe/Paris]",
+        "[u-ca=hebrew]",
+        "[+01:00]",
+        "[[a]]",
+    ] {
+        let text = format!("2000-11-03{suffix}");
+        let error = LenientDateTime::parse(text.as_bytes()).err();
+        assert_eq!(error, Some(LenientDateTimeError::ZoneName), "{text}");
+    }
+    // A short form has 119 bytes at most; the strict form has any number.
+    for (zeros, is_read) in [(112, true), (113, false)] {
+        let text = format!("{}1-11-03", "0".repeat(zeros));
+        assert_eq!(LenientDateTime::parse(text.as_bytes()).is_ok(), is_read);
+        let strict = format!("{text}T00:00:00");
+        assert!(LenientDateTime::parse(strict.as_bytes()).is_ok());
+    }
+}
+
+#[test]
+fn an_offset_and_a_zone_may_disagree() {
+    let paris = LocalTimeType::new(3600, false, Some(b"CET")).unwrap();
+    let agrees = |text: &str| {
+        LenientDateTime::parse(text.as_bytes())
+            .unwrap()
+            .agrees_with(&paris)
+    };
+    assert!(agrees("2000-11-03T05:06[Europe/Paris]"));
+    assert!(agrees("2000-11-03T05:06+01:00[Europe/Paris]"));
+    assert!(!agrees("2000-11-03T05:06+02:00[Europe/Paris]"));
+    assert!(!agrees("2000-11-03T05:06Z[Europe/Paris]"));
 }
