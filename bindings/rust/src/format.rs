@@ -1,4 +1,4 @@
-//! Date times printed by patterns, as strftime's.
+//! Date times printed and read by patterns, as strftime's and strptime's, and local times as people write them.
 //!
 //! A pattern is a text in which a `%` and the letters after it are a conversion, and every other character stands for itself. [`Pattern::new`] checks a
 //! pattern, and [`pattern!`](crate::pattern) does so when the program is compiled. What a pattern prints has at most 128 bytes, whatever the date time, so
@@ -52,6 +52,27 @@
 //!
 //! Everything else after a `%` is an error of [`Pattern::new`]. This follows glibc's `strftime` in its locale of C, but that glibc prints years below
 //! 1000 with fewer digits, and that it has conversions of locales, flags and widths.
+//!
+//! # Reading
+//!
+//! [`Pattern::read`] takes exactly the texts that the pattern prints, of the years from 0 to 9999, whole milliseconds, and offsets of whole minutes below
+//! 100 hours. It allocates nothing. [`LenientDateTime::parse`] reads local times without a pattern.
+//!
+//! ```
+//! use tz::format::{LenientDateTime, Pattern, ReadPatternError};
+//!
+//! let read = Pattern::RFC_2822.read(b"Fri, 21 Nov 1997 09:55:06 -0600")?;
+//! assert_eq!(read.local().to_string(), "1997-11-21T09:55:06.000000000Z");
+//! assert_eq!(read.ut_offset(), Some(-21_600));
+//! // That day was no Thursday.
+//! let error = Pattern::RFC_2822.read(b"Thu, 21 Nov 1997 09:55:06 -0600").unwrap_err();
+//! assert_eq!(error, ReadPatternError::Mismatch);
+//!
+//! let written = LenientDateTime::parse(b"1997-11-21 09:55[America/Chicago]").unwrap();
+//! assert_eq!(written.date_time().local().to_string(), "1997-11-21T09:55:00.000000000Z");
+//! assert_eq!(written.zone_name(), Some(&b"America/Chicago"[..]));
+//! # Ok::<(), ReadPatternError>(())
+//! ```
 
 pub use crate::proved::tz_format::{
     FormattedDateTime, FormattedUtcDateTime, LenientDateTime, LenientDateTimeError, Pattern,
