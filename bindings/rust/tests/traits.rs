@@ -79,3 +79,44 @@ fn zones_are_covariant() {
     let types = { utc }.local_time_types();
     assert_eq!(types, [LocalTimeType::utc()]);
 }
+
+/// What is equal has one hash, and of these values nothing else has it.
+fn expect_hashes<T: std::hash::Hash + PartialEq>(values: &[T]) {
+    use std::hash::{BuildHasher, RandomState};
+    let state = RandomState::new();
+    for (place, value) in values.iter().enumerate() {
+        for other in &values[place..] {
+            assert_eq!(
+                value == other,
+                state.hash_one(value) == state.hash_one(other)
+            );
+        }
+    }
+}
+
+#[test]
+fn hashes_agree_with_equality() -> Result<(), TzError> {
+    let types = [0, 3600].map(LocalTimeType::with_ut_offset);
+    let mut date_times = Vec::new();
+    let mut utc_date_times = Vec::new();
+    for unix_time in [-1, 0, 1, 946_684_800] {
+        for nanoseconds in [0, 1] {
+            for local_time_type in types {
+                let shown =
+                    DateTime::from_timespec_and_local(unix_time, nanoseconds, local_time_type?)?;
+                date_times.push(shown);
+            }
+            utc_date_times.push(UtcDateTime::from_timespec(unix_time, nanoseconds)?);
+        }
+    }
+    for (hour, minute, second) in [(23, 59, 60), (23, 59, 59), (12, 0, 60), (12, 1, 0)] {
+        utc_date_times.push(UtcDateTime::new(1999, 12, 31, hour, minute, second, 0)?);
+    }
+    expect_hashes(&date_times);
+    expect_hashes(&utc_date_times);
+    assert_eq!(
+        tz::datetime::Disambiguation::default(),
+        tz::datetime::Disambiguation::Compatible
+    );
+    Ok(())
+}
