@@ -366,3 +366,39 @@ fn printed_dates_are_read_and_other_texts_are_not() {
     let error = long.parse::<Date>().unwrap_err();
     assert_eq!(error.to_string(), "expected the end at byte 100");
 }
+
+#[test]
+fn days_later_have_that_number() {
+    let ends = [
+        (1999, 12),
+        (2000, 2),
+        (2023, 2),
+        (2024, 2),
+        (2024, 4),
+        (2025, 12),
+    ];
+    let mut dates: Vec<_> = ends
+        .iter()
+        .flat_map(|&(year, month)| {
+            (20..=31).filter_map(move |day| Date::new(year, month, day).ok())
+        })
+        .collect();
+    dates.extend([
+        Date::MIN,
+        Date::MAX,
+        date(i32::MAX, 12, 4),
+        date(1970, 1, 1),
+    ]);
+    for date in dates {
+        for days in (-800..=800).chain([i64::MIN, i64::MAX]) {
+            let number = date.day_number().checked_add(days);
+            let later = number.and_then(Date::from_day_number);
+            assert_eq!(date.checked_add_days(days), later, "{date} {days}");
+        }
+        for week_day in 0..=6 {
+            let next = (1..=7).filter_map(|days| date.checked_add_days(days));
+            let next = next.filter(|next| next.week_day() == week_day).min();
+            assert_eq!(date.next_week_day(week_day), next, "{date} {week_day}");
+        }
+    }
+}
