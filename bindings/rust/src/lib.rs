@@ -118,6 +118,7 @@ pub mod shim;
 pub use datetime::{DateTime, UtcDateTime};
 pub use error::{Error, TzError};
 pub use proved::tz::{DateTimePart, ParseDateTimeError, ParsedDateTime, TzString};
+pub use proved::tz_base::constants;
 pub use proved::tz_civil::{Date, WeekDate};
 pub use timezone::{Change, ChangesAfter, ChangesBefore, LocalTimeType, Segment, TimeZoneRef};
 #[cfg(feature = "alloc")]

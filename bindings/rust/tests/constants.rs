@@ -1,7 +1,8 @@
-//! Every `const fn` of tz-rs, and of this crate, in a constant.
+//! Every `const fn` of tz-rs, and of this crate, in a constant; and the constants of the calendar.
 
 use std::time::Duration;
 use tz::calendar::{days_in_month, is_leap_year};
+use tz::constants::*;
 use tz::format::{FormattedDateTime, FormattedUtcDateTime, Pattern, UtcPattern};
 use tz::timezone::{
     AlternateTime, Julian0WithLeap, Julian1WithoutLeap, LeapSecond, MonthWeekDay, RuleDay,
@@ -219,6 +220,54 @@ fn dates_have_the_values_that_calls_have() {
         "2001-09-09T00:00:00.000000000+02:00"
     );
     assert_eq!(CALENDAR, (true, Some(29)));
+}
+
+/// The numbers of the calendar, each of which std's or this crate's calls give, too.
+#[test]
+fn the_calendar_has_its_numbers() {
+    assert_eq!(NANOSECONDS_PER_SECOND, Duration::MAX.subsec_nanos() + 1);
+    assert_eq!((SECONDS_PER_MINUTE, MINUTES_PER_HOUR), (60, 60));
+    assert_eq!((HOURS_PER_DAY, DAYS_PER_WEEK, MONTHS_PER_YEAR), (24, 7, 12));
+    assert_eq!((SECONDS_PER_HOUR, SECONDS_PER_DAY), (3600, 86_400));
+    assert_eq!(
+        (SECONDS_PER_WEEK, SECONDS_PER_28_DAYS),
+        (604_800, 2_419_200)
+    );
+    let years = [2001, 2000].map(|year| (1..=12).map(move |month| days_in_month(year, month)));
+    let [normal, leap] = years.map(|days| days.map(|it| i64::from(it.unwrap())));
+    let leap: Vec<i64> = leap.collect();
+    let normal: Vec<i64> = normal.collect();
+    assert_eq!(normal, DAYS_IN_MONTHS_NORMAL_YEAR);
+    for month in 0..12 {
+        let (of_normal, of_leap) = (&normal[..month], &leap[..month]);
+        assert_eq!(
+            CUMUL_DAYS_IN_MONTHS_NORMAL_YEAR[month],
+            of_normal.iter().sum::<i64>()
+        );
+        assert_eq!(
+            CUMUL_DAYS_IN_MONTHS_LEAP_YEAR[month],
+            of_leap.iter().sum::<i64>()
+        );
+        assert_eq!(
+            DAY_IN_MONTHS_LEAP_YEAR_FROM_MARCH[month],
+            leap[(month + 2) % 12]
+        );
+    }
+    let days_of = |years: std::ops::Range<i32>| {
+        let leap = years.clone().filter(|&year| is_leap_year(year)).count();
+        365 * years.len() as i64 + leap as i64
+    };
+    assert_eq!(DAYS_PER_NORMAL_YEAR, days_of(2001..2002));
+    assert_eq!(DAYS_PER_4_YEARS, days_of(2001..2005));
+    assert_eq!(DAYS_PER_100_YEARS, days_of(2001..2101));
+    assert_eq!(DAYS_PER_400_YEARS, days_of(2001..2401));
+    assert_eq!(SECONDS_PER_NORMAL_YEAR, 86_400 * days_of(2001..2002));
+    assert_eq!(SECONDS_PER_LEAP_YEAR, 86_400 * days_of(2000..2001));
+    let first = UtcDateTime::new(2000, 3, 1, 0, 0, 0, 0).unwrap();
+    assert_eq!(
+        (UNIX_OFFSET_SECS, OFFSET_YEAR),
+        (first.unix_time(), i64::from(first.year()))
+    );
 }
 
 #[test]
