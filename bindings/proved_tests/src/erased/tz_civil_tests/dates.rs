@@ -72,6 +72,7 @@ fn numbers_week_days_and_texts() -> Result<(), Fail> {
         expect_eq(&rt, &days_in_month(year, month), &Some(last));
         let printed = format_in!(rt.alloc(); "{date}")?;
         expect_eq(&rt, &printed.as_str(), &text);
+        expect_eq(&rt, &Date::parse(text.as_bytes()).ok(), &Some(date));
     }
     expect_eq(&rt, &Date::from_day_number(784_351_576_777), &None);
     expect_eq(&rt, &Date::from_day_number(-784_353_015_834), &None);
