@@ -87,8 +87,8 @@ impl Date {
     ///
     /// # Errors
     ///
-    /// [`ParseDateTimeError`] with the first part that the text does not have, and its position. After
-    /// a separator that can be a part of a time.
+    /// [`ParseDateTimeError`] with the first part that the text does not have, and its position.
+    /// After a separator that can be a part of a time.
     pub fn parse(text: &[u8]) -> Result<Self, ParseDateTimeError>
         ensures ok { IfOk result (IsDateText text.now) }
         ensures err { IfErr result (IsDateTextFault text.now) }

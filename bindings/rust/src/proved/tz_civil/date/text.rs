@@ -59,8 +59,8 @@ impl Date {
     ///
     /// # Errors
     ///
-    /// [`ParseDateTimeError`] with the first part that the text does not have, and its position. After
-    /// a separator that can be a part of a time.
+    /// [`ParseDateTimeError`] with the first part that the text does not have, and its position.
+    /// After a separator that can be a part of a time.
     pub fn parse(text: &[u8]) -> Result<Self, ParseDateTimeError> {
         if text.len() > LONGEST {
             return Err(ParseDateTimeError {
