@@ -298,7 +298,7 @@ def picture(title, kept, section):
     return '\n'.join([*out, '</svg>', ''])
 
 
-def write(words):
+def write(words=()):
     """Writes the tables into the page, each from its mark to the next empty line, and the pictures beside it; or prints those that have no mark there. Gives
     what is wrong."""
     kept = figures.Figures(TOP / 'bench' / 'figures.json')
@@ -317,7 +317,7 @@ def write(words):
     }
     made['reasons'] = reasons.shown()
     page = PAGE.read_text()
-    if words == ['--all']:
+    if list(words) == ['--all']:
         print(*(f'## {name}\n\n{text}\n' for name, text in made.items() if f'<!-- {name} -->' not in page), sep='\n')
         return []
     for name, text in made.items():
