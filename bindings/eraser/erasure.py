@@ -133,6 +133,10 @@ EXACT = {
     ),
     # The list of the layer by hand lends its entries.
     "crates/tz/src/datetime/found.rt": (("    pub(super) found: Vec<", "    pub(crate) found: Vec<"),),
+    # These docs stand apart from their function.
+    "crates/tz_format/src/print.rt": (
+        ("/// Appends what a pattern prints.\n\n", "/// Appends what a pattern prints.\n"),
+    ),
     # The public type is by hand.
     "crates/tz_zone/src/timezone/zone_names.rt": (
         ("(super::TimeZone::named)", "(crate::timezone::TimeZone::named)"),
@@ -192,6 +196,24 @@ OPEN_FIELDS = {
     "crates/tz_c/src/zones.rt": ("PartsData",),
 }
 
+# The lints that an item allows itself.
+ALLOWED = {
+    # A proof reads the field, and a zone lent by C has the variant.
+    "crates/tz/src/datetime/find.rt": {"Refused": ("dead_code",)},
+    "crates/tz_zone/src/timezone/zone_data.rt": {"RuleSource": ("dead_code",)},
+    "crates/tz/src/parse.rt": {"read_printed": ("clippy::manual_range_contains",)},
+    "crates/tz/src/text_buffer.rt": {"TextBuffer::push_decimal": ("clippy::manual_range_contains",)},
+    "crates/tz_base/src/calendar.rt": {"days_before_moved_year": ("clippy::manual_div_ceil",)},
+    "crates/tz_format/src/lenient.rt": {"is_name_byte": ("clippy::manual_range_contains",)},
+    "crates/tz_zone/src/parse/tz_string.rt": {"read_daylight": ("clippy::type_complexity",)},
+    "crates/tz_c/src/zones.rt": {"index_in": ("clippy::manual_find", "clippy::needless_range_loop")},
+    "crates/tz_query/src/query/output.rt": {"Page::push_year": ("clippy::manual_range_contains",)},
+    "crates/tz_query/src/query/read_query.rt": {
+        "read_numbers": ("clippy::needless_range_loop",),
+        "read_nanoseconds": ("clippy::needless_range_loop",),
+    },
+}
+
 # Errors to which variants are never added.
 EXHAUSTIVE = {"ReadFault", "RunFault"}
 
@@ -218,14 +240,14 @@ OTHER_EXAMPLES = {
 
 def sources_named():
     """The sources that these tables name."""
-    tables = (EXACT, LEFT_OUT, SKIPPED, METHODS, OPEN_FIELDS, CONST, dict.fromkeys(OTHER_EXAMPLES))
+    tables = (EXACT, LEFT_OUT, SKIPPED, METHODS, OPEN_FIELDS, ALLOWED, CONST, INNER, dict.fromkeys(OTHER_EXAMPLES))
     return sorted({path for table in tables for path in table if path.startswith("crates/")})
 
 
-def constants():
-    """The functions that are const in Rust alone, by source."""
+def named_in(file_name):
+    """The names of a list, by source."""
     made, names = {}, set()
-    with open(os.path.join(os.path.dirname(__file__), "constants.txt"), encoding="utf-8") as file:
+    with open(os.path.join(os.path.dirname(__file__), file_name), encoding="utf-8") as file:
         for line in file:
             if line.startswith(" "):
                 names.update(line.strip().rstrip(",").split(", "))
@@ -234,4 +256,7 @@ def constants():
     return made
 
 
-CONST = constants()
+# The functions that are const in Rust alone.
+CONST = named_in("constants.txt")
+# The items and imports of the Rust crate that its feature `inner` alone has.
+INNER = named_in("inner.txt")

@@ -1,7 +1,10 @@
-"""Says before items which feature of the package they need: those that name a vector or a file, and those that name such an item."""
+"""Says before items which feature of the package they need: `alloc` or `std` those that name a vector or a file, and those that name such an item;
+`inner` those that erasure.INNER names, which serve the packages over the crate alone.
+"""
 import re
 
-from .structure import all_items
+from . import erasure
+from .structure import all_items, parts_of_import
 from .tokens import Stop, edited, found_again, hidden
 
 # What the shim has with a feature alone, by the name of the feature. `std` has all that `alloc` has.
@@ -11,10 +14,17 @@ SEEDS = {
 }
 # Variants that need a feature, in enums that do not.
 VARIANTS = {"crates/tz_base/src/error.rt": {"Error::Io": "alloc"}}
+# Exports of what needs no feature, for code by hand that needs one.
+EXPORTS = {
+    "crates/tz/src/lib.rt": {"TimeZoneSettings": "alloc"},
+    "crates/tz_zone/src/timezone/mod.rt": {"DEFAULT_DIRECTORIES": "std", "TimeZoneSettings": "alloc"},
+}
 
 
-def attribute(feature):
-    return f'#[cfg(feature = "{feature}")]\n'
+def attribute(*needs):
+    """What stands before an item that needs these features."""
+    made = ", ".join(f'feature = "{it}"' for it in needs)
+    return f"#[cfg({made if len(needs) == 1 else f'all({made})'})]\n" if needs else ""
 
 
 class Source:
@@ -52,19 +62,8 @@ def is_variant(source, item):
 
 
 def imported(source, item):
-    """The names that an import brings: each with its path in the text."""
-    words = source.tokens[item[3] : item[5] + 1]
-    text = source.text[words[0].start : words[-1].start]
-    head, brace, names = text.partition("{")
-    if not brace:
-        return head.rpartition("::")[0] + "::", [head.rpartition("::")[2].strip()]
-    if "{" in names:
-        raise Stop(f"{source.path}: an import in a form that is not known: {text}")
-    return head, [it.strip() for it in names.rstrip("} \n").split(",") if it.strip()]
-
-
-def name_of(part):
-    return part.split(" as ")[-1].strip()
+    """What an import begins with, and its parts, each with the name that it brings."""
+    return parts_of_import(source.path, source.text[source.tokens[item[3]].start : source.tokens[item[5]].end])
 
 
 def spread(sources):
@@ -101,33 +100,91 @@ def without_variants(source, item, names):
     return {name: feature for name, feature in names.items() if name not in variants}
 
 
+class Inner:
+    """The names of a source that erasure.INNER has."""
+
+    def __init__(self, source):
+        self.path = source.path
+        self.names = set(erasure.INNER.get(source.path, ()))
+        self.left = set(self.names)
+
+    def has(self, name):
+        self.left.discard(name)
+        return name in self.names
+
+    def has_item(self, kind, name):
+        """Whether it has an item, or what an `impl` is of."""
+        if kind == "impl":
+            owner = name.split()[-1]
+            return owner in self.names or f"use {owner}" in self.names
+        return self.has(name)
+
+    def stop_at_rest(self):
+        if self.left:
+            raise Stop(f"{self.path}: there is no {min(self.left)}: bindings/erase --inner writes bindings/eraser/inner.txt anew")
+
+
+def without_implied(needs, outer):
+    """The needs of an item but those of what it stands in. `std` has all that `alloc` has."""
+    return [it for it in needs if it not in outer and not (it == "alloc" and "std" in outer)]
+
+
+def feature_of_uses(source, name):
+    """The least feature that an item needs which has this name, or None if one that has it needs none, or none has it."""
+    found = set()
+    for at, word in enumerate(source.tokens):
+        if word.text != name or source.tokens[at - 1].text == ".":
+            continue
+        around = [it for it in source.items if it[2] <= at <= it[5]]
+        if not around or around[0][0] == "use":
+            continue
+        found.add(max((source.of_item.get(it, "") for it in around), default=""))
+    return min(found) if found and "" not in found else None
+
+
+def import_by_features(source, item, everywhere, inner):
+    """An import, its parts apart by what they need; None if they need nothing."""
+    head, parts = imported(source, item)
+    local = {**everywhere, **source.names, **EXPORTS.get(source.path, {})}
+    in_path = [it for it in re.findall(r"\w+", head) if it in SEEDS]
+    made = {}
+    for part, name in parts:
+        feature = local.get(in_path[-1] if in_path else name)
+        if not head.startswith("pub"):
+            feature = max(filter(None, (feature, feature_of_uses(source, name))), default=None)
+        needs = tuple(filter(None, (feature, inner.has(f"use {name}") and "inner")))
+        made.setdefault(needs, []).append(part)
+    if list(made) == [()]:
+        return None
+    order = ((), ("alloc",), ("std",), ("inner",), ("alloc", "inner"), ("std", "inner"))
+    return "\n".join(f"{attribute(*needs)}{head}{{{', '.join(made[needs])}}};" for needs in order if needs in made)
+
+
 def with_features(sources):
     """The texts of the sources, by their paths, in which items say what they need."""
     read = [Source(path, text) for path, text in sources.items()]
     everywhere = spread(read)
     for source in read:
         edits = []
-        inside = None
+        inner = Inner(source)
+        # Where each item ends in which the next ones may stand, and what it needs.
+        outside = []
         for item in source.items:
-            kind, _, start, head, _, last = item
-            if inside and last <= inside:
-                continue
-            place = source.tokens[start].start
+            kind, name, start, head, _, last = item
+            outside = [it for it in outside if last <= it[0]]
+            outer = {need for _, needs in outside for need in needs}
             if kind == "use":
-                path, parts = imported(source, item)
-                local = {**everywhere, **source.names}
-                in_path = [it for it in re.findall(r"\w+", path) if it in SEEDS]
-                needs = [local.get(in_path[-1] if in_path else name_of(it) if name_of(it) != "self" else path.rstrip(":").rpartition("::")[2]) for it in parts]
-                if any(needs):
-                    made = []
-                    for feature in (None, "alloc", "std"):
-                        kept = [it for it, need in zip(parts, needs) if need == feature]
-                        if kept:
-                            made.append(f"{attribute(feature) if feature else ''}{path}{{{', '.join(kept)}}};")
-                    edits.append((source.tokens[head].start, source.tokens[last].end, "\n".join(made)))
-            elif item in source.of_item:
-                inside = last
-                edits.append((place, place, attribute(source.of_item[item])))
+                made = import_by_features(source, item, everywhere, inner)
+                if made:
+                    edits.append((source.tokens[head].start, source.tokens[last].end, made))
+                continue
+            needs = list(filter(None, (source.of_item.get(item), inner.has_item(kind, name) and "inner")))
+            needs = without_implied(needs, outer)
+            if needs:
+                outside.append((last, needs))
+                place = source.tokens[start].start
+                edits.append((place, place, attribute(*needs)))
+        inner.stop_at_rest()
         text = edited(source.text, edits)
         for name, feature in VARIANTS.get(source.path, {}).items():
             # The variant, and the arm of its text.

@@ -7,6 +7,7 @@ from . import erasure
 from .constant import INTEGERS, ends_operand, made_constant
 from .cut import without_ghosts
 from .exports import with_open_fields, with_open_modules
+from .lints import with_allowed_lints, with_arms_for_more, with_unread_parameters, without_imports
 from .methods import called_as_method, with_methods
 from .structure import functions_of, items_of
 from .tokens import OPEN, Stop, closing, edited, found_again, hidden, line_of, tokens_of
@@ -25,7 +26,7 @@ def erased(package, path, text):
     known(path, without_ghosts(path, text, lines=True))
     # From here on a pattern finds code alone.
     text, texts = hidden(path, without_ghosts(path, text))
-    text = left_out(package, path, text)
+    text = without_imports(path, text, left_out(path, text))
     text = without_laws(path, text)
     text = with_errors(path, text, texts)
     text = with_derives(path, text)
@@ -36,7 +37,10 @@ def erased(package, path, text):
     text = with_bounds(path, text)
     if package.features:
         text = with_must_use(path, text)
+    if package.others:
+        text = with_arms_for_more(path, text)
     text = found_again(with_paths(package, path, text), texts)
+    text = with_unread_parameters(path, with_allowed_lints(path, text))
     text = with_open_fields(text, erasure.OPEN_FIELDS.get(path, ()))
     # Links of docs name the crate of another crate's item.
     text = re.sub(r"(?m)^(\s*//[/!].*\]\()tz::", r"\1crate::", text)
@@ -150,7 +154,7 @@ def stops_at_orders(path, text, tokens):
             raise Stop(f"{path}:{line_of(text, item.start)}: an order of an enum with numbers: {item.name}")
 
 
-def left_out(package, path, text):
+def left_out(path, text):
     """Leaves out the items that Rust has otherwise, or that only proofs need."""
     names = erasure.LEFT_OUT.get(path, ())
     if not names:
@@ -183,8 +187,7 @@ def without_laws(path, text):
 
 # A variant's text, or that of a struct, as thiserror takes it.
 ERROR_TEXT = re.compile(r'#\[error\((transparent|"\u00a7\d+\u00a7")\)\]\s*')
-# The packages of this repository know all variants.
-NON_EXHAUSTIVE = '#[cfg_attr(not(feature = "inner"), non_exhaustive)]\n'
+NON_EXHAUSTIVE = '#[non_exhaustive]\n'
 VARIANT = re.compile(r"([A-Z]\w*)\s*(\(([^()]*)\))?\s*,")
 # A variant of named fields, which its text may name.
 VARIANT_OF_FIELDS = re.compile(r"([A-Z]\w*)\s*\{(?P<fields>[^{}]*)\}\s*,")
@@ -289,7 +292,7 @@ def with_must_use(path, text):
     for function in functions_of(path, text):
         head = text[function.head : function.body]
         result = head.rpartition("->")[2].partition("where")[0].split()
-        if "->" not in head or not head.startswith("pub ") or "&mut " in head or result[0].startswith(("Result<", "fmt::Result")):
+        if "->" not in head or not head.startswith("pub ") or "&mut " in head or result[0].startswith(("Result<", "(Result<", "fmt::Result")):
             continue
         edits.append((function.head, function.head, "#[must_use]\n"))
     return edited(text, edits)

@@ -107,6 +107,18 @@ def start_of_docs(text, at):
     return line
 
 
+def parts_of_import(path, text):
+    """What an import of a text begins with, and its parts, each with the name that it brings."""
+    head, brace, parts = text.rstrip().rstrip(";").partition("{")
+    if "{" in parts or "*" in text:
+        raise Stop(f"{path}: an import in a form that is not known: {text}")
+    if not brace:
+        head, _, parts = text.rstrip().rstrip(";").rpartition("::")
+        head += "::" if _ else ""
+    parts = [it.strip() for it in parts.rstrip("} \n").split(",") if it.strip()]
+    return head, [(it, head.rstrip(":").rpartition("::")[2] if it == "self" else it.split(" as ")[-1].strip()) for it in parts]
+
+
 def all_items(path, text):
     tokens = tokens_of(path, text)
     found = []

@@ -5,7 +5,7 @@ import subprocess
 import tempfile
 import unittest
 
-from . import erasure, exports, features, forms
+from . import erasure, exports, features, forms, lints
 from .cut import without_ghosts
 from .tokens import Stop
 
@@ -277,14 +277,14 @@ class Methods(unittest.TestCase):
             "/// Docs.\n#[inline]\npub const fn one(zone: &Zone<'_>, at: i64) -> Option<i64>\n    ensures { x }\n{\n    Some(at)\n}\n", one="Zone::two"
         )
         wanted = (
-            "#[inline] #[must_use] pub const fn one(zone: &Zone<'_>, at: i64) -> Option<i64> { Some(at) }"
+            "#[inline] #[must_use] pub const fn one(_zone: &Zone<'_>, at: i64) -> Option<i64> { Some(at) }"
             " impl Zone<'_> { /// Docs. #[inline] #[must_use] pub const fn two(&self, at: i64) -> Option<i64> { one(self, at) } }"
         )
         self.assertEqual(wanted, made)
 
     def test_associated_functions(self):
         made = self.made("impl Date {\n    /// Docs.\n    pub fn of(from: &Time) -> Self {\n        Date {}\n    }\n}\n", Date__of="Time::date")
-        self.assertIn("impl Date { #[doc(hidden)] #[must_use] pub fn of(from: &Time)", made)
+        self.assertIn("impl Date { #[doc(hidden)] #[must_use] pub fn of(_from: &Time)", made)
         self.assertIn("impl Time { /// Docs. #[must_use] pub fn date(&self) -> Date { Date::of(self) } }", made)
         made = self.made("pub fn read(text: &str) -> Time {\n    Time {}\n}\n", read="Time::read")
         self.assertIn("impl Time { #[must_use] pub fn read(text: &str) -> Time { read(text) } }", made)
@@ -314,6 +314,47 @@ class Methods(unittest.TestCase):
             self.made("fn one(zone: &Zone<'_>) {}\n", one="Zone::one")
         with self.assertRaisesRegex(Stop, "there is no function two"):
             self.made("pub fn one(zone: &Zone<'_>) {}\n", two="Zone::two")
+
+
+class Lints(unittest.TestCase):
+    """What lints ask of code without its contracts."""
+
+    def test_a_parameter_that_contracts_alone_read(self):
+        made = erased("fn one<T: Two>(at: i64, mut by: T, name: &str) -> u8 {\n    three(self, by)\n}\n\ntrait Four {\n    fn five(at: i64);\n}\n")
+        self.assertIn("fn one<T: Two>(_at: i64, mut by: T, _name: &str)", made)
+        self.assertIn("fn five(at: i64);", made)
+        self.assertIn("fn one(at: i64)", erased('fn one(at: i64) {\n    write!(f, "{at}")\n}\n'))
+
+    def test_many_parameters(self):
+        seven = "fn one(&self, " + ", ".join(f"p{it}: Two<u8, u8>" for it in range(6)) + ") {}\n"
+        self.assertNotIn("allow", erased(seven))
+        self.assertIn("/// Docs.\n#[allow(clippy::too_many_arguments)]\n#[inline]\npub fn", erased("/// Docs.\n#[inline]\npub " + seven.replace("&self,", "&self, q: u8,")))
+
+    def test_allowed(self):
+        erasure.ALLOWED[PATH] = {"One::two": ("three", "four")}
+        self.addCleanup(erasure.ALLOWED.pop, PATH)
+        self.assertIn("impl One {\n    #[allow(three, four)]\nfn two", erased("impl One {\n    fn two() {}\n}\n"))
+        with self.assertRaisesRegex(Stop, f"{PATH}: there is no One::two"):
+            erased("fn two() {}\n")
+
+    def test_imports_of_what_is_left_out(self):
+        erasure.LEFT_OUT[PATH] = {"one"}
+        self.addCleanup(erasure.LEFT_OUT.pop, PATH)
+        made = erased("use crate::two;\nuse super::{three, four as five};\npub use crate::six;\n\nfn one() {\n    two(five, six)\n}\n\nfn seven() {\n    three()\n}\n")
+        self.assertEqual("use super::{three};\npub use crate::proved::tz_base::six; fn seven() { three() }", " ".join(made.split()).replace("; pub", ";\npub"))
+
+    def test_a_match_over_errors(self):
+        for arms, has in (
+            ("DateTimeError::InvalidMonth => 1,", True),
+            ("Ok(one) => { 1 }\n Err(tz::Error::Tz(two)) => f(two, 3),", True),
+            ("Err(tz::Error::Tz(two)) => 1, Err(_) => 2,", False),
+            ("TzError::OutOfRange => 1, other => 2,", False),
+            ("TzError::OutOfRange => 1, other if other.is_one() => 2,", True),
+            ("Fault::One => 1,", False),
+        ):
+            made = lints.with_arms_for_more(PATH, f"fn one() -> u8 {{\n    match two(3) {{\n        {arms}\n    }}\n}}\n")
+            with self.subTest(arms):
+                self.assertEqual(has, "_ => unreachable!(),\n}" in made)
 
 
 class Packages(unittest.TestCase):
@@ -359,6 +400,29 @@ class Features(unittest.TestCase):
         self.assertIn(f"impl Eight {{\n    {alloc}fn nine(a: &Three) {{}}\n\n    fn ten() {{}}\n}}", made["two"])
         self.assertEqual(made["three"].count("#["), 1)
         self.assertIn(f"\n{std}fn file", made["three"])
+
+    def test_inner(self):
+        names = {"One", "two", "Three::four", "use five", "use String"}
+        erasure.INNER["crates/tz_base/src/one.rt"] = names
+        self.addCleanup(erasure.INNER.pop, "crates/tz_base/src/one.rt")
+        text = (
+            "use super::{five, seven};\nuse crate::shim::String;\n\nstruct One;\n\nimpl Eight for One {\n    fn nine() {}\n}\n\n"
+            "fn two() -> Vec<u8> { seven }\n\nimpl Three {\n    fn four() {}\n\n    fn ten() {}\n}\n"
+        )
+        made = self.made(one=text)["one"]
+        inner, both = features.attribute("inner"), features.attribute("alloc", "inner")
+        self.assertIn(f"{both}use crate::shim::{{String}};\n", made)
+        self.assertIn(f"{inner}use super::{{five}};", made)
+        self.assertIn(f"\n{inner}struct One;\n\n{inner}impl Eight for One {{\n    fn nine", made)
+        self.assertIn(f"\n{both}fn two", made)
+        self.assertIn(f"impl Three {{\n    {inner}fn four() {{}}\n\n    fn ten", made)
+        names.add("eleven")
+        with self.assertRaisesRegex(Stop, "one.rt: there is no eleven: bindings/erase --inner"):
+            self.made(one=text)
+
+    def test_imports_that_such_items_alone_name(self):
+        made = self.made(one="use super::two;\nuse super::three;\n\nfn four(a: Vec<u8>) { two(three) }\n\nfn five() { three() }\n")
+        self.assertIn(f"{features.attribute('alloc')}use super::{{two}};\nuse super::three;\n", made["one"])
 
     def test_variants(self):
         variants, arms = "    Io(anyhow::Error),\n    Tz(u8),\n", "        Error::Io(it) => 1,\n        Error::Tz(it) => 2,\n"

@@ -8,6 +8,7 @@ import re
 
 from . import erasure, forms
 from .cut import without_ghosts
+from .lints import with_arms_for_more
 from .structure import functions_of
 from .tokens import OPEN, Stop, closing, edited, line_of, tokens_of
 
@@ -122,7 +123,7 @@ def erased(package, path, text):
     text = with_runtimes(path, text)
     for old, new in (*CALLS, *PATHS):
         text = re.sub(old, new, text)
-    text = with_paths(package, path, text)
+    text = with_arms_for_more(path, with_paths(package, path, text))
     return with_imports(text)
 
 

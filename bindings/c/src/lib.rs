@@ -13,5 +13,4 @@
 mod built_in;
 mod exports;
 mod pointers;
-#[allow(clippy::all)]
 mod proved;

@@ -12,8 +12,7 @@ mod kit;
 // The program's library, of which no package makes a crate.
 #[cfg(test)]
 #[path = "../../tzq/src/proved/mod.rs"]
-#[allow(dead_code, unused_imports, unused_labels)]
-#[allow(clippy::all)]
+#[allow(dead_code, unused_imports)]
 mod proved;
 #[cfg(test)]
 mod shim;

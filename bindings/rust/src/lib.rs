@@ -97,22 +97,25 @@ mod refused;
 
 // The program and the C library are made over the crate's inner calls. These have conditions that only proofs check, and may change at any time.
 #[cfg(not(feature = "inner"))]
-#[allow(clippy::all, dead_code, unused_imports, unused_variables)]
-#[deny(clippy::incompatible_msrv)]
+#[cfg_attr(not(feature = "std"), allow(dead_code))]
 mod proved;
+// No user sees these types, and docs of what the crate does not have name laws.
 #[cfg(feature = "inner")]
 #[doc(hidden)]
-#[allow(clippy::all, clippy::must_use_candidate, dead_code, missing_docs)]
-// Docs of what the crate does not have here name laws.
-#[allow(rustdoc::broken_intra_doc_links, unused_imports, unused_variables)]
-#[deny(clippy::incompatible_msrv)]
+#[cfg_attr(not(feature = "std"), allow(dead_code))]
+#[allow(
+    clippy::len_without_is_empty,
+    clippy::must_use_candidate,
+    clippy::new_without_default,
+    rustdoc::broken_intra_doc_links
+)]
 pub mod proved;
 #[cfg(not(feature = "inner"))]
-#[allow(dead_code)]
+#[cfg_attr(not(feature = "alloc"), allow(dead_code))]
 mod shim;
 #[cfg(feature = "inner")]
 #[doc(hidden)]
-#[allow(missing_docs, clippy::must_use_candidate, clippy::new_without_default)]
+#[allow(clippy::must_use_candidate, clippy::new_without_default)]
 pub mod shim;
 
 pub use datetime::{DateTime, UtcDateTime};

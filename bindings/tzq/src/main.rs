@@ -5,8 +5,8 @@
 
 #[cfg(feature = "zones")]
 mod built_in;
+// Other programs over the library call what this one does not.
 #[allow(dead_code, unused_imports)]
-#[allow(clippy::all)]
 mod proved;
 mod shim;
 mod streams;

@@ -15,7 +15,6 @@ mod exports;
 mod heap;
 #[path = "../../c/src/pointers.rs"]
 mod pointers;
-#[allow(clippy::all)]
 #[path = "../../c/src/proved/mod.rs"]
 mod proved;
 

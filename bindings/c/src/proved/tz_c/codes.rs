@@ -64,6 +64,7 @@ pub(crate) fn fields_code(error: DateTimeError) -> u32 {
         DateTimeError::InvalidMinute => 19,
         DateTimeError::InvalidSecond => 20,
         DateTimeError::InvalidNanoseconds => 21,
+        _ => unreachable!(),
     }
 }
 
@@ -73,6 +74,7 @@ pub(crate) fn type_code(error: LocalTimeTypeError) -> u32 {
         LocalTimeTypeError::InvalidTimeZoneDesignationLength => 32,
         LocalTimeTypeError::InvalidTimeZoneDesignationChar => 33,
         LocalTimeTypeError::InvalidUtcOffset => 34,
+        _ => unreachable!(),
     }
 }
 
@@ -87,6 +89,7 @@ pub(crate) fn rule_code(error: TransitionRuleError) -> u32 {
         TransitionRuleError::InvalidDstUtcOffset => 53,
         TransitionRuleError::InvalidDstStartEndTime => 54,
         TransitionRuleError::InconsistentRule => 55,
+        _ => unreachable!(),
     }
 }
 
@@ -98,6 +101,7 @@ pub(crate) fn zone_code(error: TimeZoneError) -> u32 {
         TimeZoneError::InvalidTransition => 66,
         TimeZoneError::InvalidLeapSecond => 67,
         TimeZoneError::InconsistentExtraRule => 68,
+        _ => unreachable!(),
     }
 }
 
@@ -106,6 +110,7 @@ fn string_bytes_code(error: ParseDataError) -> u32 {
     match error {
         ParseDataError::UnexpectedEof => 82,
         ParseDataError::InvalidData => 83,
+        _ => unreachable!(),
     }
 }
 
@@ -132,6 +137,7 @@ pub(crate) fn string_code(error: &TzStringError) -> u32 {
         TzStringError::MissingDstStartEndRules => 90,
         TzStringError::RemainingData => 91,
         TzStringError::Empty => 92,
+        _ => unreachable!(),
     }
 }
 
@@ -140,6 +146,7 @@ fn file_bytes_code(error: ParseDataError) -> u32 {
     match error {
         ParseDataError::UnexpectedEof => 113,
         ParseDataError::InvalidData => 114,
+        _ => unreachable!(),
     }
 }
 
@@ -156,6 +163,7 @@ pub(crate) fn file_code(error: &TzFileError) -> u32 {
         TzFileError::InvalidTimeZoneDesignationCharIndex => 120,
         TzFileError::InvalidStdWallUtLocal => 121,
         TzFileError::RemainingDataV1 => 122,
+        _ => unreachable!(),
     }
 }
 
@@ -171,6 +179,7 @@ pub(crate) fn code_of(error: &TzError) -> u32 {
         TzError::OutOfRange => 1,
         TzError::NoAvailableLocalTimeType => 2,
         TzError::Memory(_) => 255,
+        _ => unreachable!(),
     }
 }
 

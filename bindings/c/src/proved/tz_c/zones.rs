@@ -301,6 +301,7 @@ pub fn tz_zone_preceding(zone: &ZoneData<'_>, unix_time: i64, out: &mut ChangeDa
 }
 
 /// The first index of a type in a list.
+#[allow(clippy::manual_find, clippy::needless_range_loop)]
 fn index_in(types: &[LocalTimeType], local_time_type: &LocalTimeType) -> Option<usize> {
     for index in 0..types.len() {
         if types[index] == *local_time_type {

@@ -43,5 +43,6 @@ pub fn named_by_settings(error: Error) -> Fault {
     match error {
         Error::Io(_) => Fault::Io,
         Error::Tz(error) => named(error),
+        _ => unreachable!(),
     }
 }

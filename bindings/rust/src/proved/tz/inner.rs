@@ -2,16 +2,29 @@
 //! For the crates above and their tests, and no part of the public surface: fields, text, the
 //! search for them, date times as plain data, and how bytes are read.
 
-pub use crate::proved::tz::datetime::date_time::{DateTimeData, FoundData, UtcData, fields_of};
+pub use crate::proved::tz::datetime::date_time::{DateTimeData, UtcData};
+#[cfg(feature = "inner")]
+pub use crate::proved::tz::datetime::date_time::{FoundData, fields_of};
+#[cfg(feature = "inner")]
 pub use crate::proved::tz::datetime::disambiguation::{Ends, FewEntries, ends_by_types, find_one};
 #[cfg(feature = "alloc")]
 pub use crate::proved::tz::datetime::find::find_fields;
-pub use crate::proved::tz::datetime::gaps_and_folds::{types_of_window, window_of};
+pub use crate::proved::tz::datetime::gaps_and_folds::types_of_window;
+#[cfg(feature = "inner")]
+pub use crate::proved::tz::datetime::gaps_and_folds::window_of;
+#[cfg(feature = "inner")]
 pub use crate::proved::tz::datetime::zone_data_searches::{find_into, from_timespec};
+#[cfg(feature = "inner")]
 pub use crate::proved::tz::parse::{read_digits, value_of};
+#[cfg(feature = "inner")]
 pub use crate::proved::tz::print::middle_of;
-pub use crate::proved::tz::text_buffer::{TextBuffer, two_pairs};
+pub use crate::proved::tz::text_buffer::TextBuffer;
+#[cfg(feature = "inner")]
+pub use crate::proved::tz::text_buffer::two_pairs;
+#[cfg(feature = "inner")]
 pub use crate::proved::tz_base::fields::{Fields, is_reading, local_reading};
-#[cfg(feature = "std")]
+#[cfg(feature = "inner")]
+pub use crate::proved::tz_zone::inner::after_byte;
+#[cfg(all(feature = "std", feature = "inner"))]
 pub use crate::proved::tz_zone::inner::read_to_end;
-pub use crate::proved::tz_zone::inner::{WindowTypes, after_byte, plain};
+pub use crate::proved::tz_zone::inner::{WindowTypes, plain};

@@ -90,13 +90,15 @@ mod text_buffer;
 mod tz_string_writer;
 
 pub use crate::proved::tz::datetime::{DateTime, UtcDateTime};
+#[cfg(feature = "inner")]
 pub use crate::proved::tz::error::{Error, TzError};
 pub use crate::proved::tz::parse::{DateTimePart, ParseDateTimeError, ParsedDateTime};
-#[cfg(feature = "alloc")]
-pub use crate::proved::tz::timezone::TimeZone;
-pub use crate::proved::tz::timezone::{
-    Change, ChangesAfter, ChangesBefore, LocalTimeType, Segment, TimeZoneRef, TimeZoneSettings,
-};
+pub use crate::proved::tz::timezone::LocalTimeType;
+#[cfg(feature = "inner")]
+pub use crate::proved::tz::timezone::{Change, ChangesAfter, ChangesBefore, Segment, TimeZoneRef};
+#[cfg(all(feature = "alloc", feature = "inner"))]
+pub use crate::proved::tz::timezone::{TimeZone, TimeZoneSettings};
 pub use crate::proved::tz::tz_string_writer::TzString;
+#[cfg(feature = "inner")]
 pub use crate::proved::tz_base::{constants, error};
 pub use crate::proved::tz_zone::timezone;

@@ -447,6 +447,7 @@ fn nanoseconds_at(text: &[u8]) -> u32 {
 }
 
 /// The date time of a printed text with a year of four digits and an offset of hours and minutes.
+#[allow(clippy::manual_range_contains)]
 fn read_printed(text: &[u8]) -> Option<(Fields, i32)> {
     if text.len() < 30
         || !are_between(text, 0, &LEAST, &GREATEST)

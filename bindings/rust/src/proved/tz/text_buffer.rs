@@ -39,6 +39,7 @@ impl TextBuffer {
     }
 
     /// Clears the text.
+    #[cfg(feature = "inner")]
     pub fn clear(&mut self) {
         self.len = 0;
     }
@@ -109,6 +110,7 @@ impl TextBuffer {
     }
 
     /// Appends the digits of a number, of which there are ten at most.
+    #[allow(clippy::manual_range_contains)]
     pub fn push_decimal(&mut self, number: u32) {
         if number >= 1000 && number < 10_000 {
             let (front, back) = two_pairs(number);
@@ -120,6 +122,7 @@ impl TextBuffer {
     }
 
     /// Appends the digits of a count, of which there are twenty at most.
+    #[cfg(feature = "inner")]
     pub fn push_count(&mut self, count: u64) {
         self.push_digits(count);
     }

@@ -107,6 +107,7 @@ pub const fn first_day_of_year(year: i32) -> i64 {
 }
 
 /// The days before a moved year, from January 1st of the year -2147484000 on.
+#[allow(clippy::manual_div_ceil)]
 #[must_use]
 pub const fn days_before_moved_year(years: u64) -> u64 {
     (1461 * years + 3) / 4 - 3 * centuries_before(years) / 4

@@ -9,7 +9,7 @@ use core::{error, fmt};
 
 /// The field that is out of range.
 #[derive(Clone, Copy, Debug, PartialEq, Eq)]
-#[cfg_attr(not(feature = "inner"), non_exhaustive)]
+#[non_exhaustive]
 pub enum DateTimeError {
     /// The month is not in 1 to 12.
     InvalidMonth,
@@ -27,7 +27,7 @@ pub enum DateTimeError {
 
 /// Why parts do not make a local time type.
 #[derive(Clone, Copy, Debug, PartialEq, Eq)]
-#[cfg_attr(not(feature = "inner"), non_exhaustive)]
+#[non_exhaustive]
 pub enum LocalTimeTypeError {
     /// The designation does not have 1 to 7 bytes.
     // The text is that of tz-rs. POSIX wants 3 characters or more, but names of 1 and 2 are
@@ -41,7 +41,7 @@ pub enum LocalTimeTypeError {
 
 /// Why parts do not make a transition rule.
 #[derive(Clone, Copy, Debug, PartialEq, Eq)]
-#[cfg_attr(not(feature = "inner"), non_exhaustive)]
+#[non_exhaustive]
 pub enum TransitionRuleError {
     /// The number of the day is outside its range.
     InvalidRuleDayJulianDay,
@@ -63,7 +63,7 @@ pub enum TransitionRuleError {
 
 /// Why parts do not make a time zone.
 #[derive(Clone, Copy, Debug, PartialEq, Eq)]
-#[cfg_attr(not(feature = "inner"), non_exhaustive)]
+#[non_exhaustive]
 pub enum TimeZoneError {
     /// There is no local time type.
     NoLocalTimeType,
@@ -79,7 +79,7 @@ pub enum TimeZoneError {
 
 /// Why the next bytes are not what is expected.
 #[derive(Clone, Copy, Debug, PartialEq, Eq)]
-#[cfg_attr(not(feature = "inner"), non_exhaustive)]
+#[non_exhaustive]
 pub enum ParseDataError {
     /// The bytes end too early.
     UnexpectedEof,
@@ -89,7 +89,7 @@ pub enum ParseDataError {
 
 /// Why a string is not a TZ string.
 #[derive(Debug, PartialEq, Eq)]
-#[cfg_attr(not(feature = "inner"), non_exhaustive)]
+#[non_exhaustive]
 pub enum TzStringError {
     /// The bytes are not UTF-8. No call returns this, since only digits are converted.
     Utf8(Utf8Error),
@@ -119,7 +119,7 @@ pub enum TzStringError {
 
 /// Why bytes are not a TZif file.
 #[derive(Debug, PartialEq, Eq)]
-#[cfg_attr(not(feature = "inner"), non_exhaustive)]
+#[non_exhaustive]
 pub enum TzFileError {
     /// The footer is not UTF-8.
     Utf8(Utf8Error),
@@ -145,7 +145,7 @@ pub enum TzFileError {
 
 /// Any error but that of a file that cannot be read.
 #[derive(Debug)]
-#[cfg_attr(not(feature = "inner"), non_exhaustive)]
+#[non_exhaustive]
 pub enum TzError {
     /// The bytes are not a TZif file.
     TzFile(TzFileError),
@@ -170,7 +170,7 @@ pub enum TzError {
 
 /// Any error.
 #[derive(Debug)]
-#[cfg_attr(not(feature = "inner"), non_exhaustive)]
+#[non_exhaustive]
 pub enum Error {
     /// A file could not be read.
     #[cfg(feature = "alloc")]

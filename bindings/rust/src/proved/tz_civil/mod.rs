@@ -7,4 +7,5 @@ mod date;
 mod day_starts;
 
 pub use date::{Date, WeekDate};
+#[cfg(feature = "inner")]
 pub use day_starts::start_of_day;

@@ -8,7 +8,7 @@ use core::{error, fmt};
 
 /// Why a text is not read as a local time with the name of a zone.
 #[derive(Clone, Copy, Debug, PartialEq, Eq)]
-#[cfg_attr(not(feature = "inner"), non_exhaustive)]
+#[non_exhaustive]
 pub enum LenientDateTimeError {
     /// After a `[`, the text does not end with the name of a time zone and `]`.
     ZoneName,
@@ -17,6 +17,7 @@ pub enum LenientDateTimeError {
 }
 
 /// Whether names have the byte: letters, digits and `+-./_`.
+#[allow(clippy::manual_range_contains)]
 fn is_name_byte(byte: u8) -> bool {
     byte.is_ascii_alphabetic() || (b'-' <= byte && byte <= b'9') || byte == b'+' || byte == b'_'
 }

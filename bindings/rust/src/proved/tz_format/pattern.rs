@@ -38,7 +38,7 @@ const fn measure(pattern: &[u8]) -> Result<usize, usize> {
 
 /// Why a text is no pattern.
 #[derive(Clone, Copy, Debug, PartialEq, Eq)]
-#[cfg_attr(not(feature = "inner"), non_exhaustive)]
+#[non_exhaustive]
 pub enum PatternError {
     /// A `%` spells no conversion.
     UnknownConversion {

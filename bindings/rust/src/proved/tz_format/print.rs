@@ -237,7 +237,6 @@ impl Line {
 }
 
 /// Appends what a pattern prints.
-
 pub(crate) fn push_pattern(line: &mut Line, pattern: &str, moment: &Moment<'_>) {
     let pattern = pattern.as_bytes();
     let mut position = 0;

@@ -12,7 +12,7 @@ use core::{error, fmt};
 
 /// Why a text is not read by a pattern.
 #[derive(Clone, Copy, Debug, PartialEq, Eq)]
-#[cfg_attr(not(feature = "inner"), non_exhaustive)]
+#[non_exhaustive]
 pub enum ReadPatternError {
     /// The pattern has a conversion that is not read.
     NotReadable,

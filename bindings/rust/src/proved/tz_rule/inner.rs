@@ -3,9 +3,16 @@
 //! what is asked of them, rules as plain data, and the parts of UTC's zone.
 
 pub use crate::proved::tz_rule::timezone::alternate_time::AlternateData;
-pub use crate::proved::tz_rule::timezone::rule_changes::{RuleChange, change_after, change_up_to};
+#[cfg(feature = "inner")]
+pub use crate::proved::tz_rule::timezone::rule_changes::RuleChange;
+pub use crate::proved::tz_rule::timezone::rule_changes::{change_after, change_up_to};
+#[cfg(feature = "inner")]
 pub use crate::proved::tz_rule::timezone::rule_day::DayData;
+#[cfg(feature = "inner")]
 pub use crate::proved::tz_rule::timezone::transition_rule::{
-    RuleData, RuleRef, end, find_local_time_type, parts_are_sound, segment_at, start,
+    RuleData, end, parts_are_sound, start,
+};
+pub use crate::proved::tz_rule::timezone::transition_rule::{
+    RuleRef, find_local_time_type, segment_at,
 };
 pub use crate::proved::tz_rule::timezone::utc_statics::{no_rule, utc_types};

@@ -4,16 +4,24 @@
 //! public call of `TimeZoneRef` returns.
 
 pub use crate::proved::tz_zone::clock::window_types::{WindowTypes, window_types};
-pub use crate::proved::tz_zone::clock::{Span, Stage, clock_segment_at, first_stage, span_from};
+#[cfg(feature = "inner")]
+pub use crate::proved::tz_zone::clock::{Span, Stage, clock_segment_at};
+pub use crate::proved::tz_zone::clock::{first_stage, span_from};
+#[cfg(feature = "inner")]
 pub use crate::proved::tz_zone::leap::leap_time::{effect, leap};
 pub use crate::proved::tz_zone::parse::after_byte;
+#[cfg(feature = "inner")]
 pub use crate::proved::tz_zone::parse::tz_file::{FileSizes, file_sizes};
-pub use crate::proved::tz_zone::parse::tz_string::{DEFAULT_HOUR, DEFAULT_SAVING, parse_posix_tz};
+#[cfg(feature = "inner")]
+pub use crate::proved::tz_zone::parse::tz_string::parse_posix_tz;
+pub use crate::proved::tz_zone::parse::tz_string::{DEFAULT_HOUR, DEFAULT_SAVING};
 pub use crate::proved::tz_zone::table::TransitionView;
 use crate::proved::tz_zone::timezone::TimeZoneRef;
-#[cfg(feature = "std")]
+#[cfg(all(feature = "std", feature = "inner"))]
 pub use crate::proved::tz_zone::timezone::files::{open_fault, read_to_end};
-pub use crate::proved::tz_zone::timezone::zone_data::{RuleSource, ZoneData};
+#[cfg(feature = "inner")]
+pub use crate::proved::tz_zone::timezone::zone_data::RuleSource;
+pub use crate::proved::tz_zone::timezone::zone_data::ZoneData;
 
 /// The zone's plain data.
 #[must_use]

@@ -1,10 +1,13 @@
 // Generated from crates/tz/src/datetime/date_time.rt by bindings/erase: its contracts are cut. Change that file instead.
 //! Date times of a local time type.
 
+#[cfg(feature = "inner")]
+use super::FoundDateTimeKind;
+use super::UtcDateTime;
+#[cfg(feature = "inner")]
 use super::entry_takers::Slot;
 use super::utc_date_time::duration_between;
 use super::zone_data_searches::from_timespec;
-use super::{FoundDateTimeKind, UtcDateTime};
 use crate::proved::tz::text_buffer::TextBuffer;
 use crate::proved::tz_base::constants::NANOSECONDS_PER_SECOND;
 use crate::proved::tz_base::error::{DateTimeError, TzError};
@@ -72,6 +75,7 @@ impl DateTime {
     /// - [`TzError::DateTime`] with the first field that is out of range, in the order of the
     ///   arguments, or else with `InvalidMonthDay` if the month does not have the day;
     /// - [`TzError::OutOfRange`] if the year in UTC does not fit an `i32`.
+    #[allow(clippy::too_many_arguments)]
     pub const fn new(
         year: i32,
         month: u8,
@@ -332,6 +336,7 @@ impl fmt::Display for DateTime {
 }
 
 /// The fields of a date time, which are valid.
+#[cfg(feature = "inner")]
 #[must_use]
 pub fn fields_of(date_time: &DateTime) -> &Fields {
     date_time.fields()
@@ -360,6 +365,7 @@ pub struct DateTimeData {
 }
 
 /// The data of a [`FoundDateTimeKind`].
+#[cfg(feature = "inner")]
 #[repr(C)]
 #[derive(Clone, Copy)]
 pub struct FoundData {
@@ -394,6 +400,7 @@ impl DateTimeData {
     }
 }
 
+#[cfg(feature = "inner")]
 impl Slot for FoundData {
     fn set(&mut self, found: &FoundDateTimeKind) {
         let (before, after) = found.sides();

@@ -333,6 +333,7 @@ impl DateTime {
     /// # Errors
     ///
     /// Those of [`DateTime::find`] but `Memory`.
+    #[allow(clippy::too_many_arguments)]
     pub fn meaning(
         year: i32,
         month: u8,
@@ -471,6 +472,7 @@ impl DateTime {
     ///
     /// - those of [`DateTime::find`] but `Memory`;
     /// - those of [`DateTime::from_timespec`] at that other instant, if the choice means a jump.
+    #[allow(clippy::too_many_arguments)]
     pub fn find_one(
         year: i32,
         month: u8,

@@ -10,9 +10,11 @@ use crate::proved::tz_base::error::TzError;
 use crate::proved::tz_base::fields::Fields;
 use crate::proved::tz_zone::inner::{TransitionView, ZoneData, plain};
 use crate::proved::tz_zone::timezone::TimeZoneRef;
+#[cfg(feature = "alloc")]
 use crate::shim::alloc::Allocator;
 
 /// A search that failed, and the buffer as it left it.
+#[allow(dead_code)]
 pub(super) struct Refused<'a> {
     buf: &'a mut [Option<FoundDateTimeKind>],
     pub(super) fault: TzError,
@@ -56,6 +58,7 @@ impl DateTime {
     /// # Errors
     ///
     /// Those of [`DateTime::find`] but `Memory`. If a field is invalid, nothing is written.
+    #[allow(clippy::too_many_arguments)]
     pub fn find_n<'a>(
         buf: &'a mut [Option<FoundDateTimeKind>],
         year: i32,
@@ -124,6 +127,7 @@ impl DateTime {
     /// # Errors
     ///
     /// Those of [`DateTime::find_n`].
+    #[allow(clippy::too_many_arguments)]
     pub fn find_n_counted<'a>(
         buf: &'a mut [Option<FoundDateTimeKind>],
         year: i32,
@@ -153,6 +157,7 @@ impl DateTime {
     }
 
     /// What [`DateTime::find_n`] returns, or the buffer and the error.
+    #[allow(clippy::too_many_arguments)]
     fn listed<'a>(
         buf: &'a mut [Option<FoundDateTimeKind>],
         year: i32,
@@ -170,6 +175,7 @@ impl DateTime {
     }
 
     /// What [`DateTime::find_n_counted`] returns, or the buffer and the error.
+    #[allow(clippy::too_many_arguments)]
     fn listed_counted<'a>(
         buf: &'a mut [Option<FoundDateTimeKind>],
         year: i32,

@@ -3,10 +3,13 @@
 //! buffer of the caller.
 
 use super::DateTime;
+#[cfg(feature = "alloc")]
 use super::entry_takers::DateTimeList;
+#[cfg(feature = "alloc")]
 use crate::proved::tz_base::error::TzError;
 #[cfg(feature = "alloc")]
 use crate::shim::Vec;
+#[cfg(feature = "alloc")]
 use crate::shim::alloc::{AllocError, Allocator, Global};
 use core::fmt;
 

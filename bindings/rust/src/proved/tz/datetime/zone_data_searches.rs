@@ -1,15 +1,24 @@
 // Generated from crates/tz/src/datetime/zone_data_searches.rt by bindings/erase: its contracts are cut. Change that file instead.
 //! Date times and searches in zones of plain data.
 
+use super::DateTime;
+#[cfg(feature = "inner")]
+use super::Disambiguation;
+#[cfg(feature = "inner")]
 use super::date_time::FoundData;
+#[cfg(feature = "inner")]
 use super::disambiguation::meant_in;
+#[cfg(feature = "inner")]
 use super::entry_takers::SlotWriter;
+#[cfg(feature = "inner")]
 use super::gaps_and_folds::search;
-use super::{DateTime, Disambiguation};
 use crate::proved::tz_base::constants::NANOSECONDS_PER_SECOND;
 use crate::proved::tz_base::error::{DateTimeError, TzError};
+#[cfg(feature = "inner")]
 use crate::proved::tz_base::fields::Fields;
-use crate::proved::tz_zone::inner::{TransitionView, ZoneData};
+#[cfg(feature = "inner")]
+use crate::proved::tz_zone::inner::TransitionView;
+use crate::proved::tz_zone::inner::ZoneData;
 
 /// What the zone's clock shows at a Unix time, as [`DateTime::from_timespec`] answers it.
 #[inline(always)]
@@ -29,6 +38,7 @@ pub const fn from_timespec(
 }
 
 /// Searches without writing anything. It stands apart, so that the search that writes stays small.
+#[cfg(feature = "inner")]
 #[cold]
 fn check_by_search(fields: &Fields, zone: &ZoneData<'_>) -> Result<(), TzError> {
     meant_in(fields.reading(), Disambiguation::Compatible, zone)?;
@@ -37,6 +47,7 @@ fn check_by_search(fields: &Fields, zone: &ZoneData<'_>) -> Result<(), TzError> 
 
 /// Searches for fields near the ends of the years, so that a search that is refused is refused
 /// before anything is written.
+#[cfg(feature = "inner")]
 fn check_entries(fields: &Fields, zone: &ZoneData<'_>) -> Result<(), TzError> {
     // For the proof, which bounds the entries by these offsets.
     let (_least, _greatest) = zone.offsets();
@@ -49,6 +60,7 @@ fn check_entries(fields: &Fields, zone: &ZoneData<'_>) -> Result<(), TzError> {
 
 /// Writes the entries for the fields, from one of them on, to the slots, as far as they go, and
 /// counts all.
+#[cfg(feature = "inner")]
 pub fn find_into(
     slots: &mut [FoundData],
     skip: usize,

@@ -191,6 +191,7 @@ impl AlternateTime {
     }
 
     /// The rule of its data.
+    #[cfg(feature = "inner")]
     pub(crate) fn of_plain(plain: &AlternateData) -> Self {
         AlternateTime {
             plain: *plain,
@@ -245,6 +246,7 @@ pub struct AlternateData {
 
 impl AlternateData {
     /// The rule with these parts, as `AlternateTime::new` makes it.
+    #[cfg(feature = "inner")]
     pub const fn new(
         std: LocalTimeType,
         dst: LocalTimeType,
@@ -310,6 +312,7 @@ impl AlternateData {
     }
 
     /// The rule whose bytes are all zero: UTC without a name all year.
+    #[cfg(feature = "inner")]
     #[must_use]
     pub const fn zeros() -> Self {
         let parts = Parts {
@@ -342,6 +345,7 @@ impl AlternateData {
     }
 
     /// The day on which daylight saving time starts.
+    #[cfg(feature = "inner")]
     #[must_use]
     pub fn dst_start(&self) -> &DayData {
         &self.parts.dst_start
@@ -354,6 +358,7 @@ impl AlternateData {
     }
 
     /// The day on which daylight saving time ends.
+    #[cfg(feature = "inner")]
     #[must_use]
     pub fn dst_end(&self) -> &DayData {
         &self.parts.dst_end

@@ -243,6 +243,7 @@ impl DayData {
     }
 
     /// The day whose bytes are all zero: January 1st.
+    #[cfg(feature = "inner")]
     #[must_use]
     pub const fn zeros() -> Self {
         DayData {

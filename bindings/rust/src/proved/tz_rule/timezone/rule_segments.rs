@@ -170,7 +170,7 @@ impl AlternateData {
     }
 
     /// The segment around an instant, with its type, as a segment of the rule.
-    const fn rule_segment(&self, unix_time: i64, segment: AlternateSegment) -> RuleSegment<'_> {
+    const fn rule_segment(&self, _unix_time: i64, segment: AlternateSegment) -> RuleSegment<'_> {
         RuleSegment {
             from: segment.from,
             last: segment.until - 1,

@@ -28,6 +28,7 @@ impl PartialEq for TransitionRule {
 impl Eq for TransitionRule {}
 
 /// A rule, or none, in C's layout. What its kind does not use is zero.
+#[cfg(feature = "inner")]
 #[repr(C)]
 #[derive(Clone, Copy)]
 pub struct RuleData {
@@ -39,6 +40,7 @@ pub struct RuleData {
     pub alternate: AlternateData,
 }
 
+#[cfg(feature = "inner")]
 impl RuleData {
     /// The data of a rule, or of none.
     #[must_use]
@@ -83,6 +85,7 @@ impl<'a> RuleRef<'a> {
     }
 
     /// The rule that is lent.
+    #[cfg(feature = "inner")]
     #[must_use]
     pub fn rule(self) -> TransitionRule {
         match self {
@@ -93,12 +96,14 @@ impl<'a> RuleRef<'a> {
 }
 
 /// The instant at which daylight saving time starts in a year.
+#[cfg(feature = "inner")]
 #[must_use]
 pub fn start(rule: &AlternateTime, year: i32) -> i64 {
     rule.plain().switch_in(false, year)
 }
 
 /// The instant at which daylight saving time ends in a year.
+#[cfg(feature = "inner")]
 #[must_use]
 pub fn end(rule: &AlternateTime, year: i32) -> i64 {
     rule.plain().switch_in(true, year)
@@ -133,6 +138,7 @@ pub const fn find_local_time_type<'a>(
 
 /// The rule and its days pass the checks of their constructors. This does nothing; its contract is
 /// what holds of every rule.
+#[cfg(feature = "inner")]
 pub const fn parts_are_sound(rule: RuleRef<'_>) {
     match rule {
         RuleRef::Fixed(_) => {}

@@ -59,6 +59,7 @@ const fn seconds_to(year_day: u16, seconds: i32) -> i32 {
 
 impl YearTable {
     /// The table of zeros.
+    #[cfg(feature = "inner")]
     pub(super) const fn zeros() -> YearTable {
         YearTable([0; KINDS])
     }

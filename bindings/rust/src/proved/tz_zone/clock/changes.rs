@@ -82,7 +82,7 @@ const fn first_position(zone: &ZoneData<'_>, unix_time: i64) -> Option<(i64, usi
 /// last one. Mostly it is so, and then nothing is walked.
 const fn change_at_next<'a>(
     zone: &ZoneData<'a>,
-    unix_time: i64,
+    _unix_time: i64,
     position: usize,
 ) -> Option<(Change<'a>, usize)> {
     let transitions = zone.transitions;
@@ -272,7 +272,7 @@ const fn run_start(zone: &ZoneData<'_>, position: usize) -> (usize, i64) {
 /// type, and it is not the last one of all. Mostly it is so, and then nothing is walked.
 const fn change_at_last<'a>(
     zone: &ZoneData<'a>,
-    unix_time: i64,
+    _unix_time: i64,
     position: usize,
 ) -> Option<(Change<'a>, usize)> {
     let transitions = zone.transitions;
@@ -330,7 +330,7 @@ const fn position_before_effect(zone: &ZoneData<'_>, index: usize, effect: i64) 
 /// lies at `position`, there is none.
 const fn preceding_from<'a>(
     zone: &ZoneData<'a>,
-    unix_time: i64,
+    _unix_time: i64,
     last: i64,
     position: usize,
 ) -> Option<(Change<'a>, usize)> {

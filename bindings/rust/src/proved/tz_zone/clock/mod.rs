@@ -10,4 +10,6 @@ pub mod window_types;
 pub use changes::{change_after_last, change_before_next, find_following, find_preceding};
 pub use lookup::find_local_time_type;
 pub use segment::{Change, Segment, clock_segment_at};
-pub use window_types::{Span, Stage, first_stage, span_from};
+#[cfg(feature = "inner")]
+pub use window_types::{Span, Stage};
+pub use window_types::{first_stage, span_from};

@@ -118,7 +118,7 @@ const fn last_before_start(leap_seconds: &[LeapSecond], unix_time: i64) -> i64 {
 }
 
 /// The first instant from which on none has a leap time, because it would leave 64 bits.
-const fn first_past(leap_seconds: &[LeapSecond], unix_time: i64) -> i64 {
+const fn first_past(leap_seconds: &[LeapSecond], _unix_time: i64) -> i64 {
     last_instant(leap_seconds) + 1
 }
 

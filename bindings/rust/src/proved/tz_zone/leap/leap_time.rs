@@ -161,6 +161,7 @@ pub(crate) const fn leap_time(leap_seconds: &[LeapSecond], unix_time: i64) -> Op
 }
 
 /// The leap time of an instant. (RFC 8536, section 2)
+#[cfg(feature = "inner")]
 pub const fn leap(leap_seconds: &[LeapSecond], unix_time: i64) -> Result<i64, TzError> {
     match leap_time_by_seconds(leap_seconds, unix_time) {
         Some(unix_leap_time) => Ok(unix_leap_time),
@@ -176,7 +177,7 @@ pub const fn leap(leap_seconds: &[LeapSecond], unix_time: i64) -> Result<i64, Tz
 /// bound, and one that ends long before the given leap time needs no second search of the leap
 /// seconds.
 pub(crate) const fn stay_before(
-    leap_seconds: &[LeapSecond],
+    _leap_seconds: &[LeapSecond],
     low: i64,
     low_leap_time: i64,
     high: i64,

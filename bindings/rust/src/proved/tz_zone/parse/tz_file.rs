@@ -4,7 +4,9 @@
 //! (RFC 8536)
 
 use super::tz_string::parse_posix_tz;
-use crate::proved::tz_base::error::{ParseDataError, TimeZoneError, TzError, TzFileError};
+#[cfg(feature = "alloc")]
+use crate::proved::tz_base::error::TimeZoneError;
+use crate::proved::tz_base::error::{ParseDataError, TzError, TzFileError};
 use crate::proved::tz_rule::timezone::{LocalTimeType, TransitionRule};
 use crate::proved::tz_zone::leap::LeapSecond;
 use crate::proved::tz_zone::leap::table_checks::is_plain_table;
@@ -13,6 +15,7 @@ use crate::proved::tz_zone::table::Transition;
 use crate::proved::tz_zone::timezone::TimeZone;
 #[cfg(feature = "alloc")]
 use crate::shim::Vec;
+#[cfg(feature = "alloc")]
 use crate::shim::alloc::{AllocError, Allocator, Global};
 use core::str;
 
@@ -300,6 +303,7 @@ fn read_frame(bytes: &[u8]) -> Result<Frame<'_>, TzFileError> {
 }
 
 /// How many entries each table of a file has, and how many bytes its footer, in C's layout.
+#[cfg(feature = "inner")]
 #[repr(C)]
 #[derive(Clone, Copy)]
 pub struct FileSizes {
@@ -310,6 +314,7 @@ pub struct FileSizes {
 }
 
 /// The sizes of a file whose headers and blocks are whole. Its tables are not looked at.
+#[cfg(feature = "inner")]
 pub fn file_sizes(bytes: &[u8]) -> Result<FileSizes, TzFileError> {
     let frame = read_frame(bytes)?;
     let counts = frame.unit.counts;

@@ -3,9 +3,9 @@
 //! and ends, whole rules, and zones of these. (POSIX.1-2017, Base Definitions, 8.3)
 
 use super::after_byte;
-use crate::proved::tz_base::error::{
-    Error, LocalTimeTypeError, ParseDataError, TzError, TzStringError,
-};
+#[cfg(feature = "alloc")]
+use crate::proved::tz_base::error::Error;
+use crate::proved::tz_base::error::{LocalTimeTypeError, ParseDataError, TzError, TzStringError};
 use crate::proved::tz_rule::timezone::{
     AlternateTime, Julian0WithLeap, Julian1WithoutLeap, LocalTimeType, MonthWeekDay, RuleDay,
     TransitionRule,
@@ -14,6 +14,7 @@ use crate::proved::tz_rule::timezone::{
 use crate::proved::tz_zone::timezone::TimeZone;
 #[cfg(feature = "alloc")]
 use crate::shim::Vec;
+#[cfg(feature = "alloc")]
 use crate::shim::alloc::Allocator;
 
 /// The bytes after a byte, which must come first.
@@ -421,6 +422,7 @@ fn read_switches(text: &[u8], extended: bool) -> Result<(DayAndTime, DayAndTime)
 }
 
 /// The daylight name, its offset, and the switches after a comma.
+#[allow(clippy::type_complexity)]
 fn read_daylight(text: &[u8]) -> Result<(&[u8], Option<WrittenTime>, &[u8]), TzStringError> {
     let (name, rest) = read_name(text)?;
     if rest.is_empty() {

@@ -5,6 +5,7 @@
 use super::TimeZone;
 use super::{Change, Segment, TimeZoneRef};
 use crate::proved::tz_zone::clock;
+#[cfg(feature = "alloc")]
 use crate::shim::alloc::Allocator;
 use core::iter::FusedIterator;
 
@@ -198,30 +199,35 @@ impl<'a> TimeZoneRef<'a> {
 #[cfg(feature = "alloc")]
 impl<A: Allocator + Copy> TimeZone<A> {
     /// The segment around an instant, as [`TimeZoneRef::segment_at`] returns it.
+    #[cfg(feature = "inner")]
     #[must_use]
     pub fn segment_at(&self, unix_time: i64) -> Segment<'_> {
         self.as_ref().segment_at(unix_time)
     }
 
     /// The first change after an instant, as [`TimeZoneRef::following`] returns it.
+    #[cfg(feature = "inner")]
     #[must_use]
     pub fn following(&self, unix_time: i64) -> Option<Change<'_>> {
         self.as_ref().following(unix_time)
     }
 
     /// The last change before an instant, as [`TimeZoneRef::preceding`] returns it.
+    #[cfg(feature = "inner")]
     #[must_use]
     pub fn preceding(&self, unix_time: i64) -> Option<Change<'_>> {
         self.as_ref().preceding(unix_time)
     }
 
     /// The changes after an instant, as [`TimeZoneRef::changes_after`] returns them.
+    #[cfg(feature = "inner")]
     #[must_use]
     pub fn changes_after(&self, unix_time: i64) -> ChangesAfter<'_> {
         self.as_ref().changes_after(unix_time)
     }
 
     /// The changes before an instant, as [`TimeZoneRef::changes_before`] returns them.
+    #[cfg(feature = "inner")]
     #[must_use]
     pub fn changes_before(&self, unix_time: i64) -> ChangesBefore<'_> {
         self.as_ref().changes_before(unix_time)

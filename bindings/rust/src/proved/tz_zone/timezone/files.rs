@@ -5,8 +5,11 @@
 use crate::proved::tz_base::error::ReadFault;
 #[cfg(feature = "alloc")]
 use crate::shim::Vec;
-use crate::shim::alloc::{Allocator, Global};
 #[cfg(feature = "alloc")]
+use crate::shim::alloc::Allocator;
+#[cfg(feature = "std")]
+use crate::shim::alloc::Global;
+#[cfg(feature = "std")]
 use crate::shim::anyhow;
 #[cfg(feature = "std")]
 use crate::shim::fs::File;
@@ -47,7 +50,7 @@ fn append<A: Allocator>(
 
 /// Reads the input to its end. Where it is not empty, room for this number of bytes is reserved,
 /// since a growth may copy everything.
-#[cfg(feature = "std")]
+#[cfg(all(feature = "std", feature = "inner"))]
 pub fn read_to_end<A: Allocator, I: Read>(
     alloc: A,
     input: &mut I,
@@ -129,7 +132,7 @@ pub fn open_fault(error: io::Error) -> ReadFault {
 ///
 /// - [`ReadFault::Failed`] if the file cannot be opened or read, such as a directory;
 /// - [`ReadFault::Memory`] if an allocation for its bytes fails.
-#[cfg(feature = "std")]
+#[cfg(all(feature = "std", feature = "inner"))]
 pub fn read_file<R: Files>(rt: &R, alloc: Global, path: &str) -> Result<Vec<u8>, ReadFault> {
     match File::open(rt, path) {
         Ok(mut file) => read_to_end(alloc, &mut file, 0),

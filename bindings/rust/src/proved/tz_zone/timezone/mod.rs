@@ -19,8 +19,13 @@ pub use crate::proved::tz_zone::leap::LeapSecond;
 pub use crate::proved::tz_zone::table::Transition;
 pub use changes::{ChangesAfter, ChangesBefore};
 #[cfg(feature = "std")]
-pub use files::{read_file, read_file_up_to, read_up_to};
-pub use settings::{DEFAULT_DIRECTORIES, TimeZoneSettings};
+pub use files::read_file_up_to;
+#[cfg(all(feature = "std", feature = "inner"))]
+pub use files::{read_file, read_up_to};
+#[cfg(feature = "std")]
+pub use settings::DEFAULT_DIRECTORIES;
+#[cfg(feature = "alloc")]
+pub use settings::TimeZoneSettings;
 #[cfg(feature = "alloc")]
 pub use zone::TimeZone;
 pub use zone_names::is_zone_name;

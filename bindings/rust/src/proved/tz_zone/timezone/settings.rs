@@ -4,15 +4,14 @@
 
 #[cfg(feature = "alloc")]
 use super::TimeZone;
-use super::zone_names::is_zone_name;
 #[cfg(feature = "alloc")]
-use super::zone_names::{no_such_zone, not_a_name};
+use super::zone_names::{is_zone_name, no_such_zone, not_a_name};
 #[cfg(feature = "alloc")]
-use crate::proved::tz_base::error::ReadFault;
-use crate::proved::tz_base::error::{Error, TzError, TzStringError};
+use crate::proved::tz_base::error::{Error, ReadFault, TzError, TzStringError};
 #[cfg(feature = "alloc")]
 use crate::proved::tz_zone::parse::tz_string::zone_of_tz_string;
 use crate::shim::ArrayString;
+#[cfg(feature = "alloc")]
 use crate::shim::alloc::{AllocError, Allocator};
 #[cfg(feature = "alloc")]
 use crate::shim::anyhow;
@@ -174,6 +173,7 @@ impl<A: Allocator + Copy> TimeZone<A> {
     /// # Errors
     ///
     /// Those of [`TimeZoneSettings::parse_local`].
+    #[cfg(feature = "inner")]
     pub fn local<F: Fn(&str) -> Result<Vec<u8>, ReadFault>>(
         alloc: A,
         reader: F,
@@ -206,6 +206,7 @@ impl<A: Allocator + Copy> TimeZone<A> {
     /// # Errors
     ///
     /// Those of [`TimeZoneSettings::parse_posix_tz`].
+    #[cfg(feature = "inner")]
     pub fn from_posix_tz<F: Fn(&str) -> Result<Vec<u8>, ReadFault>>(
         alloc: A,
         reader: F,

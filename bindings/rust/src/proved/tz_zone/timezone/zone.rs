@@ -1,13 +1,19 @@
 // Generated from crates/tz_zone/src/timezone/zone.rt by bindings/erase: its contracts are cut. Change that file instead.
 //! Time zones that own their parts.
 
+#[cfg(feature = "alloc")]
 use super::zone_checks::{check_parts, offset_range};
+#[cfg(feature = "alloc")]
 use super::zone_data::lent;
+#[cfg(feature = "alloc")]
 use super::{LeapSecond, LocalTimeType, TimeZoneRef, Transition, TransitionRule};
+#[cfg(feature = "alloc")]
 use crate::proved::tz_base::error::TzError;
 #[cfg(feature = "alloc")]
 use crate::shim::Vec;
+#[cfg(feature = "alloc")]
 use crate::shim::alloc::{Allocator, Global};
+#[cfg(feature = "alloc")]
 use core::fmt;
 
 /// A time zone that owns its parts, on one allocator.
@@ -92,6 +98,7 @@ impl<A: Allocator + Copy> TimeZone<A> {
     /// # Errors
     ///
     /// [`TzError::Memory`] if an allocation fails.
+    #[cfg(feature = "inner")]
     pub fn utc(alloc: A) -> Result<Self, TzError> {
         TimeZone::with_type(alloc, LocalTimeType::utc())
     }
@@ -103,12 +110,14 @@ impl<A: Allocator + Copy> TimeZone<A> {
     /// - [`TzError::LocalTimeType`] with `InvalidUtcOffset` if the offset is `i32::MIN`, which is
     ///   checked before anything is allocated;
     /// - [`TzError::Memory`] if an allocation fails.
+    #[cfg(feature = "inner")]
     pub fn fixed(alloc: A, ut_offset: i32) -> Result<Self, TzError> {
         let local_time_type = LocalTimeType::with_ut_offset(ut_offset)?;
         TimeZone::with_type(alloc, local_time_type)
     }
 
     /// The zone that has one type alone.
+    #[cfg(feature = "inner")]
     fn with_type(alloc: A, local_time_type: LocalTimeType) -> Result<Self, TzError> {
         let ut_offset = local_time_type.ut_offset();
         let local_time_types = Vec::from_array(alloc, [local_time_type])?;
@@ -178,6 +187,7 @@ impl<A: Allocator + Copy> TimeZone<A> {
     /// # Errors
     ///
     /// Those of [`TimeZone::find_local_time_type`].
+    #[cfg(feature = "inner")]
     pub fn find_current_local_time_type(&self, unix_time: i64) -> Result<&LocalTimeType, TzError> {
         self.find_local_time_type(unix_time)
     }

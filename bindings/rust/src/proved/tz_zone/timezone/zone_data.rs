@@ -10,6 +10,7 @@ use crate::proved::tz_zone::table::TransitionView;
 
 /// The rule of a zone as its owner keeps it. It is lent where the rule is needed, so that lending a
 /// zone tests nothing of it.
+#[allow(dead_code)]
 #[derive(Clone, Copy)]
 pub enum RuleSource<'a> {
     /// A rule, or none.
@@ -114,12 +115,14 @@ impl<'a> ZoneData<'a> {
     }
 
     /// The local time types, which the transitions name by their numbers.
+    #[cfg(feature = "inner")]
     #[must_use]
     pub const fn local_time_types(&self) -> &'a [LocalTimeType] {
         self.local_time_types
     }
 
     /// The leap seconds, in order.
+    #[cfg(feature = "inner")]
     #[must_use]
     pub const fn leap_seconds(&self) -> &'a [LeapSecond] {
         self.leap_seconds

@@ -174,7 +174,6 @@ impl<'a> TimeZoneRef<'a> {
     /// # Errors
     ///
     /// Those of [`TimeZoneRef::find_local_time_type`].
-    #[must_use]
     pub fn find_local_time_type_counted(
         &self,
         unix_time: i64,

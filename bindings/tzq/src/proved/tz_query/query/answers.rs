@@ -27,6 +27,7 @@ fn field_fault_name(fault: &DateTimeError) -> &'static str {
         DateTimeError::InvalidMinute => "InvalidMinute",
         DateTimeError::InvalidSecond => "InvalidSecond",
         DateTimeError::InvalidNanoseconds => "InvalidNanoseconds",
+        _ => unreachable!(),
     }
 }
 

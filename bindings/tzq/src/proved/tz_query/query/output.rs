@@ -137,6 +137,7 @@ impl Page {
     }
 
     /// Appends a year, in few steps if it has four digits.
+    #[allow(clippy::manual_range_contains)]
     #[inline(always)]
     fn push_year(&mut self, year: i32) {
         if year < 1000 || year > 9999 {

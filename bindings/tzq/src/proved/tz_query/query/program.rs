@@ -58,6 +58,7 @@ fn zone_of_arguments<A: Allocator + Copy, F: Fn(&str) -> Result<Vec<u8>, ReadFau
             Ok(zone) => Ok(zone),
             Err(tz::proved::tz::Error::Io(_)) => Err(Fault::File),
             Err(tz::proved::tz::Error::Tz(error)) => Err(Fault::from(error)),
+            _ => unreachable!(),
         },
         _ => Err(Fault::Arguments),
     }

@@ -47,6 +47,7 @@ pub fn read_number(bytes: &[u8]) -> Option<(i64, &[u8])> {
 
 /// Numbers at the beginning of the bytes, each of 64 bits and after a space, if the line ends after
 /// the last of them, and the bytes after that line.
+#[allow(clippy::needless_range_loop)]
 fn read_numbers<const N: usize>(bytes: &[u8]) -> Option<([i64; N], &[u8])> {
     let mut numbers = [0; N];
     let mut rest = bytes;
@@ -204,6 +205,7 @@ fn read_usual_number(bytes: &[u8], position: usize) -> Option<(i64, usize)> {
 ///
 /// The nine bytes before LF are copied, and those before the digits overwritten: so a number that
 /// ends within the first nine bytes is left to `read_query`.
+#[allow(clippy::needless_range_loop)]
 #[inline(always)]
 fn read_nanoseconds(bytes: &[u8], position: usize, nine: &mut [u8; 9]) -> Option<usize> {
     if bytes[position] != b' ' {
