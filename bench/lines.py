@@ -57,7 +57,7 @@ def readings_at_jumps(rng, count, jumps, first=1950, last=2037):
 
 def weekly_readings(count, first):
     """A meeting at nine in each week, from the first year on."""
-    return [f'F {day.year} {day.month} {day.day} 9 0 0 7' for day in (datetime.date(first, 1, 2) + datetime.timedelta(weeks=n) for n in range(count))]
+    return [f'F {day.year} {day.month} {day.day} 9 0 0 7' for day in (datetime.date(first, 1, 2) + datetime.timedelta(weeks=week) for week in range(count))]
 
 
 def jumps_of_file(path):
@@ -71,7 +71,7 @@ def jumps_of_file(path):
     instants = struct.unpack(f'>{times}q', data[at:at + 8 * times])
     indexes = data[at + 8 * times:at + 9 * times]
     at += 9 * times
-    offsets = [struct.unpack('>i', data[at + 6 * n:at + 6 * n + 4])[0] for n in range(types)]
+    offsets = [struct.unpack('>i', data[at + 6 * index:at + 6 * index + 4])[0] for index in range(types)]
     after = [offsets[index] for index in indexes]
     return list(zip(instants, [offsets[0]] + after[:-1], after))
 
@@ -87,7 +87,8 @@ def jumps_of_string(string, first, last):
     standard = -3600 * int(parts[1])
 
     def day(year, month, week, week_day):
-        days = [n for n in range(1, calendar.monthrange(year, month)[1] + 1) if (calendar.weekday(year, month, n) + 1) % 7 == week_day]
+        month_days = range(1, calendar.monthrange(year, month)[1] + 1)
+        days = [month_day for month_day in month_days if (calendar.weekday(year, month, month_day) + 1) % 7 == week_day]
         return (datetime.date(year, month, days[min(week, len(days)) - 1]) - datetime.date(1970, 1, 1)).days * 86400
 
     jumps = []
@@ -110,8 +111,8 @@ def write_file(path, times, indexes, types, names, footer):
 
 def file_of_many_transitions(path, count=100000):
     """A TZif file with a jump of half an hour every 3000 seconds from 2016 on."""
-    times = [year_start(2016) + 3000 * n for n in range(count)]
-    write_file(path, times, ((n + 1) % 2 for n in range(count)), ((3600, 0, 0), (5400, 1, 4)), b'ONE\0TWO\0', 'ONE-1')
+    times = [year_start(2016) + 3000 * index for index in range(count)]
+    write_file(path, times, ((index + 1) % 2 for index in range(count)), ((3600, 0, 0), (5400, 1, 4)), b'ONE\0TWO\0', 'ONE-1')
 
 
 def file_of_string(path, string):

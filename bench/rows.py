@@ -200,7 +200,7 @@ def words(how, zone, count, seed, years=None):
         'instants of local years': lambda: lines.random_instants(rng, count, FIRST, LAST),
         'sorted instants': lambda: lines.log_instants(rng, count),
         # As many as a column of 10^6 instants in order has over these years.
-        'dense instants': lambda: [f'T {946684800 + 2745 * n} 0' for n in range(count)],
+        'dense instants': lambda: [f'T {946684800 + 2745 * index} 0' for index in range(count)],
         'far instants': lambda: lines.random_instants(rng, count, 2100, 3000),
         'local times': lambda: lines.random_readings(rng, count, *(within or (FIRST, LAST))),
         'far local times': lambda: lines.random_readings(rng, count, 2100, 3000),

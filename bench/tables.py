@@ -52,7 +52,7 @@ class Reasons:
     def __init__(self):
         self.given, self.missing = set(), []
 
-    def of(self, name, row):
+    def letters_of(self, name, row):
         """The letters behind a row's ratio."""
         best = best_of(row)
         if best is None or row.get('tz', 0) <= best:
@@ -84,7 +84,7 @@ def of_instructions(section, kept, through, peers, reasons):
         if best_of(row) is None:
             continue
         ratios = [over_best(row, program) for program in compared]
-        ratios[0] += reasons.of(name, row)
+        ratios[0] += reasons.letters_of(name, row)
         differing = kept.rows(f'differing {section}').get(rows.search_of(name), {})
         cells = [f'{row[peer]}{STAR * (peer in differing)}' if peer in row else '–' for peer in (*through, *peers)]
         lines.append([name, row.get('tz', '–'), *cells, *ratios])
@@ -128,7 +128,7 @@ def of_times(kept, reasons):
             for peer in PEERS:
                 star = STAR * (peer in differing)
                 cells.append(f'{multiple(row[peer] / least)}{star}' if peer in row else '–')
-            letters = reasons.of(f'time of {name}', {**row, 'tz': least})
+            letters = reasons.letters_of(f'time of {name}', {**row, 'tz': least})
             lines.append([name, *cells, f'{least / best_of(row):.2f}{letters}'])
     names = [f'{program.replace("-", " ")}, ns' for program in OWN]
     return table(['row', *names, *PEERS, 'tz / best'], lines)
@@ -283,18 +283,18 @@ def picture(title, kept, section):
     scale = (WIDTH - LEFT - 120) / LONGEST
     out = [f'<svg xmlns="http://www.w3.org/2000/svg" viewBox="0 0 {WIDTH} {height}" font-family="sans-serif" font-size="12">',
            f'<rect width="{WIDTH}" height="{height}" fill="#ffffff"/>', f'<text x="12" y="20" font-size="14">{title}</text>']
-    for n, (name, colour) in enumerate(zip(names, COLOURS)):
-        out.append(f'<rect x="{LEFT + 150 * n}" y="10" width="12" height="12" fill="{colour}"/><text x="{LEFT + 18 + 150 * n}" y="20">{name}</text>')
-    for n, (name, row) in enumerate(bars):
-        y = HEAD + each * n
-        out.append(f'<text x="12" y="{y + 16}">{html.escape(name)}</text>')
-        for k, (figure, colour) in enumerate(zip(row, COLOURS)):
+    for place, (name, colour) in enumerate(zip(names, COLOURS)):
+        out.append(f'<rect x="{LEFT + 150 * place}" y="10" width="12" height="12" fill="{colour}"/><text x="{LEFT + 18 + 150 * place}" y="20">{name}</text>')
+    for place, (name, row) in enumerate(bars):
+        top = HEAD + each * place
+        out.append(f'<text x="12" y="{top + 16}">{html.escape(name)}</text>')
+        for within, (figure, colour) in enumerate(zip(row, COLOURS)):
             if figure is None:
                 continue
             length = min(figure, LONGEST) * scale
             more = ' (cut off)' if figure > LONGEST else ''
-            out.append(f'<rect x="{LEFT}" y="{y + (BAR + 1) * k}" width="{length:.1f}" height="{BAR}" fill="{colour}"/>')
-            out.append(f'<text x="{LEFT + length + 5:.1f}" y="{y + (BAR + 1) * k + 10}" font-size="10">{figure}{more}</text>')
+            out.append(f'<rect x="{LEFT}" y="{top + (BAR + 1) * within}" width="{length:.1f}" height="{BAR}" fill="{colour}"/>')
+            out.append(f'<text x="{LEFT + length + 5:.1f}" y="{top + (BAR + 1) * within + 10}" font-size="10">{figure}{more}</text>')
     return '\n'.join([*out, '</svg>', ''])
 
 

@@ -35,7 +35,7 @@ def tzif_files(directory):
 
 def query_lines(rng):
     """Instants and local times, most of them near transitions of the last two centuries."""
-    lines = [f"T {u} 0" for u in (-(2**62), -(2**40), -(2**31) - 1, -(2**31), -1, 0, 78796800, 2**31 - 1, 2**31, 2**40, 2**62)]
+    lines = [f"T {instant} 0" for instant in (-(2**62), -(2**40), -(2**31) - 1, -(2**31), -1, 0, 78796800, 2**31 - 1, 2**31, 2**40, 2**62)]
     lines += [f"T {rng.randint(-4 * 10**9, 6 * 10**9)} {rng.randint(0, 999999999)}" for _ in range(30)]
     for _ in range(30):
         year, month, day = rng.randint(1880, 2060), rng.choice([3, 4, 6, 9, 10, 11, 12]), rng.randint(1, 30)
@@ -67,7 +67,7 @@ def differences(lines, ours, theirs):
         return [(kind, f"{ours[2] or 'answers'} | {theirs[2] or 'answers'}")]
     if ours[0] != 0:
         return [] if ours[2] == theirs[2] else [("named", f"{ours[2]} | {theirs[2]}")]
-    return [(line[0], f"{line}: {a} | {b}") for line, a, b in zip(lines, ours[1], theirs[1]) if a != b]
+    return [(line[0], f"{line}: {mine} | {other}") for line, mine, other in zip(lines, ours[1], theirs[1]) if mine != other]
 
 
 def alterations(rng, content, cuts, changes):

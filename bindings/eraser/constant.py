@@ -30,9 +30,11 @@ def made_constant(path, text):
             continue
         names.discard(function.name)
         whole = text[function.head : function.end]
-        for step in (with_casts, with_narrowings, with_slices, with_comparisons, with_returns, with_whiles):
+        # A number of 128 bits as one of 64, if it fits.
+        whole = re.sub(r"\bi64::try_from\(", "crate::shim::narrow(", whole)
+        for step in (with_casts, with_slices, with_comparisons, with_returns, with_whiles):
             try:
-                whole = step(path, function.name, whole)
+                whole = step(path, whole)
             except Stop as stop:
                 raise Stop(f"{path}: in {function.name}: {stop}") from None
         whole = re.sub(r"\bfn\b", "const fn", whole, count=1)
@@ -55,7 +57,7 @@ def is_simple(tokens):
     return True
 
 
-def with_casts(path, name, text):
+def with_casts(path, text):
     while True:
         tokens = tokens_of(path, text)
         for at in range(len(tokens) - 4):
@@ -87,7 +89,7 @@ def chain_start(tokens, at):
     while True:
         at -= 1
         if tokens[at].text in OPEN.values():
-            wanted, depth = at, 0
+            depth = 0
             while True:
                 depth += (tokens[at].text in OPEN.values()) - (tokens[at].text in OPEN)
                 if depth == 0:
@@ -110,7 +112,7 @@ def chain_start(tokens, at):
 KEYWORDS = {"as", "break", "else", "if", "in", "let", "loop", "match", "move", "mut", "return", "unsafe", "while"}
 
 
-def with_returns(path, name, text):
+def with_returns(path, text):
     while True:
         tokens = tokens_of(path, text)
         at = next((at for at, it in enumerate(tokens) if it.text == "?"), None)
@@ -128,7 +130,7 @@ def with_returns(path, name, text):
         text = edited(text, [(start, tokens[at].end, new)])
 
 
-def with_comparisons(path, name, text):
+def with_comparisons(path, text):
     """The lesser or the greater of two numbers."""
     while True:
         tokens = tokens_of(path, text)
@@ -146,7 +148,7 @@ def with_comparisons(path, name, text):
         text = edited(text, [(start, tokens[end].end, new)])
 
 
-def with_slices(path, name, text):
+def with_slices(path, text):
     """The first elements of a slice."""
     while True:
         tokens = tokens_of(path, text)
@@ -171,11 +173,6 @@ def with_slices(path, name, text):
         text = edited(text, [(tokens[first - 1].start, tokens[end].end, new)])
 
 
-def with_narrowings(path, name, text):
-    """A number of 128 bits as one of 64, if it fits."""
-    return re.sub(r"\bi64::try_from\(", "crate::shim::narrow(", text)
-
-
 # What a body may not have that becomes that of a `while`.
 NO_LOOP = (
     (r"\bcontinue\b", "a loop that continues"),
@@ -185,7 +182,7 @@ NO_LOOP = (
 FOR = re.compile(r"\bfor (\w+) in ([^{};]+?)\.\.([^{};=]+?) \{")
 
 
-def with_whiles(path, name, text):
+def with_whiles(path, text):
     while True:
         found = FOR.search(text)
         if not found:

@@ -30,11 +30,11 @@ def erased(package, path, text):
     text = without_laws(path, text)
     text = with_errors(path, text, texts)
     text = with_derives(path, text)
-    text = with_formatters(path, text)
+    text = with_formatters(text)
     text = with_safe_text(path, text)
     text = made_constant(path, text)
     text = with_methods(path, text)
-    text = with_bounds(path, text)
+    text = with_bounds(text)
     if package.features:
         text = with_must_use(path, text)
     if package.others:
@@ -52,8 +52,9 @@ def erased(package, path, text):
 def known(path, text):
     """Stops at a macro or an attribute that is not known, and at forms that mean something else in Rust."""
     tokens = tokens_of(path, text)
-    for stops in (stops_at_floats, stops_at_ranges, stops_at_sizes, stops_at_orders):
+    for stops in (stops_at_floats, stops_at_ranges, stops_at_sizes):
         stops(path, text, tokens)
+    stops_at_orders(path, text)
     for at, token in enumerate(tokens[:-1]):
         if any(ord(letter) > 127 for letter in token.text) and token.kind != "string":
             raise Stop(f"{path}:{line_of(text, token.start)}: a letter that is not ASCII")
@@ -146,7 +147,7 @@ def is_laid_out(path, text, name):
     return False
 
 
-def stops_at_orders(path, text, tokens):
+def stops_at_orders(path, text):
     """Rust orders the variants of an enum by their numbers."""
     for item in items_of(path, text):
         code = text[item.start : item.end]
@@ -274,13 +275,13 @@ def with_derives(path, text):
     return re.sub(r"#\[derive\(([^)]*)\)\]\n", derived, text)
 
 
-def with_formatters(path, text):
+def with_formatters(text):
     """`fmt` is generic over its output in Rattle, and not in Rust."""
     text = text.replace("fn fmt<W: fmt::Write>(", "fn fmt(")
     return text.replace("fmt::Formatter<W>", "fmt::Formatter<'_>")
 
 
-def with_bounds(path, text):
+def with_bounds(text):
     """`Drop` as a bound says in Rattle that a value may be dropped, as each may in Rust."""
     text = re.sub(r"\s*\+\s*Drop\b", "", text)
     return re.sub(r"<([A-Z]): Drop>", r"<\1>", text)
@@ -341,8 +342,6 @@ def with_paths(package, path, text):
             elif in_use and before == "{" and token.text in package.modules:
                 raise Stop(f"{path}:{line_of(text, token.start)}: an import in a form that is not known")
     text = edited(text, edits)
-    for found in re.finditer(r"^(\s*(?:pub )?use )\{([^}]*)\};", text, re.M):
-        pass
     for pattern, new in package.std_paths:
         text = re.sub(pattern, new, text, flags=re.M)
     left = re.search(r"^(?:pub )?use std::[^;]*;|[^:\w]std::\w+", "\n".join(it for it in text.split("\n") if not it.lstrip().startswith("//")), re.M)

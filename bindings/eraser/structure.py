@@ -1,5 +1,5 @@
 """The items and functions of a text of Rust, by brackets."""
-from typing import NamedTuple, Optional
+from typing import NamedTuple
 
 from .tokens import OPEN, Stop, closing, tokens_of
 

@@ -10,7 +10,7 @@ from . import erasure, forms
 from .cut import without_ghosts
 from .lints import with_arms_for_more
 from .structure import functions_of
-from .tokens import OPEN, Stop, closing, edited, line_of, tokens_of
+from .tokens import OPEN, Stop, edited, line_of, tokens_of
 
 TOP = os.path.dirname(os.path.dirname(os.path.dirname(os.path.realpath(__file__))))
 LEFT_OUT = "bindings/proved_tests/left_out.txt"

@@ -42,21 +42,21 @@ def days_before_month(year, month):
 class JulianDay(collections.namedtuple('JulianDay', 'day')):
     """Jn: day 1 to 365 of a year, where the 29th of February is not counted."""
 
-    def of(self, year):
+    def day_in(self, year):
         return days_before_year(year) + self.day - 1 + (self.day > 59 and is_leap(year))
 
 
 class YearDay(collections.namedtuple('YearDay', 'day')):
     """n: day 0 to 365 of a year, where the 29th of February is counted."""
 
-    def of(self, year):
+    def day_in(self, year):
         return days_before_year(year) + self.day
 
 
 class WeekDay(collections.namedtuple('WeekDay', 'month week day')):
     """Mm.w.d: the w-th day d of the week in month m; day 0 is Sunday, and the fifth is the last."""
 
-    def of(self, year):
+    def day_in(self, year):
         first = days_before_month(year, self.month)
         # 1970-01-01 was a Thursday.
         found = first + (self.day - (first + 4)) % 7 + 7 * (self.week - 1)
@@ -137,7 +137,7 @@ class Rule:
         for year in range(first - 1, last + 2):
             for (day, time), before, after in ((self.start, self.std, self.dst),
                                                (self.end, self.dst, self.std)):
-                found[day.of(year) * DAY + time - before.offset].append((year, after))
+                found[day.day_in(year) * DAY + time - before.offset].append((year, after))
         if any(len({year for year, _ in changes}) < len(changes) for changes in found.values()):
             raise self.refused('has daylight saving time that ends as it starts')
         return [(time, changes[0][1]) for time, changes in sorted(found.items())
@@ -161,7 +161,7 @@ def year_near(time):
     return 1970 + time // 31556952
 
 
-def kept(table, types, rule):
+def count_to_keep(table, types, rule):
     """The least number of transitions to keep so that the clock stays the same at every instant.
 
     A zone follows its rule from its last transition on. So the last one can go if, from the one
@@ -247,5 +247,5 @@ def read_zones(folder):
 
 def cut(zone):
     """The zone without the transitions that its rule says too."""
-    count = kept(zone.table, zone.types, Rule(zone.footer) if zone.footer else None)
+    count = count_to_keep(zone.table, zone.types, Rule(zone.footer) if zone.footer else None)
     return zone._replace(table=zone.table[:count])

@@ -12,7 +12,7 @@ import tempfile
 import time
 import unittest
 
-from database import (DAY, JulianDay, Refused, Rule, Type, WeekDay, YearDay, kept, read_version,
+from database import (DAY, JulianDay, Refused, Rule, Type, WeekDay, YearDay, count_to_keep, read_version,
                       read_zone, read_zones)
 
 EPOCH = datetime.date(1970, 1, 1)
@@ -49,17 +49,17 @@ class Days(unittest.TestCase):
             days = [first + datetime.timedelta(day) for day in range(365)]
             days += [datetime.date(year, 12, 31)] * (days[-1].day == 30)
             for place in (0, 58, 59, 60, 364):
-                self.assertEqual(YearDay(place).of(year), (days[place] - EPOCH).days)
+                self.assertEqual(YearDay(place).day_in(year), (days[place] - EPOCH).days)
             others = [day for day in days if (day.month, day.day) != (2, 29)]
             for place in (1, 59, 60, 365):
-                self.assertEqual(JulianDay(place).of(year), (others[place - 1] - EPOCH).days)
+                self.assertEqual(JulianDay(place).day_in(year), (others[place - 1] - EPOCH).days)
             for month in range(1, 13):
                 for week_day in range(7):
                     found = [day for day in days
                              if day.month == month and day.isoweekday() % 7 == week_day]
                     for week in range(1, 6):
                         expected = (found[min(week, len(found)) - 1] - EPOCH).days
-                        self.assertEqual(WeekDay(month, week, week_day).of(year), expected)
+                        self.assertEqual(WeekDay(month, week, week_day).day_in(year), expected)
 
 
 class Rules(unittest.TestCase):
@@ -104,13 +104,13 @@ class Rules(unittest.TestCase):
             # Gaza: at 02:00 of the Saturday after the fourth Thursday.
             ('EET-2EEST,M3.4.4/50,M10.4.4/50', [('2025-03-29T00:00', 3), ('2025-10-24T23:00', 1)]),
         ]:
-            found = [time for time, _ in Rule(text).changes(2025, 2025)]
-            self.assertEqual(found, [at(time) for time, _ in changes], text)
+            found = [instant for instant, _ in Rule(text).changes(2025, 2025)]
+            self.assertEqual(found, [at(instant) for instant, _ in changes], text)
 
     def test_daylight_saving_time_all_year_has_one_type(self):
         rule = Rule('EST5EDT,0/0,J365/25')
-        for time in ('1969-07-01', '2024-01-01T05:00', '2024-01-01T04:59:59', '2024-12-31T12:00'):
-            self.assertEqual(rule.type_at(at(time)), Type(-4 * 3600, True, 'EDT'))
+        for text in ('1969-07-01', '2024-01-01T05:00', '2024-01-01T04:59:59', '2024-12-31T12:00'):
+            self.assertEqual(rule.type_at(at(text)), Type(-4 * 3600, True, 'EDT'))
 
     def test_other_strings_are_refused(self):
         for text in ['A3', 'EST', 'EST25', 'EST5EDT', 'EST5EDT,M3.2.0', 'EST5EDT,M13.2.0,M11.1.0',
@@ -144,7 +144,7 @@ class Tables(unittest.TestCase):
                         table.insert(place + 1, (time + 30 * DAY, index))
             if rule.type_at(table[-1][0]) != types[table[-1][1]]:
                 with self.assertRaises(Refused):
-                    kept(table, types, rule)
+                    count_to_keep(table, types, rule)
                 continue
             instants = sorted({instant + beside for instant, _ in table + rule.changes(1995, 2007)
                                for beside in (-1, 0, 1)})
@@ -158,17 +158,17 @@ class Tables(unittest.TestCase):
                     shown.append(by_rule[instant] if follows else types[past[-1]])
                 return shown
             same = [count for count in range(1, len(table)) if clock(count) == clock(len(table))]
-            self.assertEqual(kept(table, types, rule), min(same, default=len(table)))
+            self.assertEqual(count_to_keep(table, types, rule), min(same, default=len(table)))
 
     def test_tables_of_rules_of_one_type_stay(self):
         rule = Rule('JST-9')
         types = [Type(33539, False, 'LMT'), rule.std, Type(36000, True, 'JDT')]
         table = [(-2587712400, 1), (-683802000, 2), (-672310800, 1)]
-        self.assertEqual(kept(table, types, rule), 3)
+        self.assertEqual(count_to_keep(table, types, rule), 3)
         # A last transition that changes nothing goes.
-        self.assertEqual(kept([*table, (0, 1)], types, rule), 3)
-        self.assertEqual(kept([], types, rule), 0)
-        self.assertEqual(kept(table[:2], types, None), 2)
+        self.assertEqual(count_to_keep([*table, (0, 1)], types, rule), 3)
+        self.assertEqual(count_to_keep([], types, rule), 0)
+        self.assertEqual(count_to_keep(table[:2], types, None), 2)
 
 
 class Files(unittest.TestCase):

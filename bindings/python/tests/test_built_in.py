@@ -9,7 +9,7 @@ from unittest import mock
 
 import tz
 from test_zone import search_path
-from tz import ZoneInfo, ZoneInfoNotFoundError, _library
+from tz import ZoneInfo, ZoneInfoNotFoundError, _library, _structures
 
 YEAR_2200 = 7258118400
 OUT_OF_RANGE = 1
@@ -17,7 +17,7 @@ OUT_OF_RANGE = 1
 
 def spans(zone):
     """What the zone's clock shows from the first instant to 2200, each with its first instant."""
-    at, change = -(1 << 63), _library.Change()
+    at, change = -(1 << 63), _structures.Change()
     first = zone._span_at(at)
     yield at, first.offset, first.name, first.kind.is_dst
     while _library.following(zone._zone, at, change) == _library.OK and at < YEAR_2200:

@@ -166,7 +166,7 @@ class Buffers(unittest.TestCase):
 
     def test_lists_and_other_widths(self):
         expected = array("i", [3600, 3600]), array("q", [-3600, -3590])
-        columns = [[0, 10], (0, 10), range(0, 20, 10), *(array(c, [0, 10]) for c in "bBhHiIlLqQ")]
+        columns = [[0, 10], (0, 10), range(0, 20, 10), *(array(typecode, [0, 10]) for typecode in "bBhHiIlLqQ")]
         for column in columns:
             self.assertEqual(ZONES[0].offsets(column), expected[0], column)
             self.assertEqual(ZONES[0].instants(column), expected[1], column)

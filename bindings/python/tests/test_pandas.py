@@ -13,7 +13,7 @@ from datetime import datetime, timedelta
 
 from packages import is_installed
 from test_zone import zone_of
-from tz import TzError, ZoneInfo, _library
+from tz import TzError, ZoneInfo, _library, _structures
 
 EPOCH, SECOND = datetime(1970, 1, 1), timedelta(seconds=1)
 # The zones that are compared: these, and so many others.
@@ -55,7 +55,7 @@ def of_columns(utc):
 
     def python(zone):
         times = shown(zone).to_pydatetime()
-        return [(t.replace(tzinfo=None), t.fold, t.utcoffset(), t.tzname()) for t in times]
+        return [(time.replace(tzinfo=None), time.fold, time.utcoffset(), time.tzname()) for time in times]
 
     uses = {
         "tz_convert, texts": lambda zone: texts(shown(zone)),
@@ -128,7 +128,7 @@ def of_one_time(seconds):
         "Timestamp, text": lambda zone: str(stamp(zone, time.isoformat())),
         "Timestamp, integer": lambda zone: (
             str(stamp(zone, at + 123)), pandas.Timestamp(seconds, unit="s", tz=zone).utcoffset()
-        ),  # fmt: skip
+        ),
         "Timestamp, datetime": of_datetimes,
         "Timestamp, fields": of_fields,
         "Timestamp, sums": lambda zone: texts(
@@ -172,7 +172,7 @@ def of_both(utc, ours, theirs):
 
 def near_changes(zone, source):
     """Local times, in seconds: random ones, and those around changes of a clock."""
-    change, at = _library.Change(), source.randrange(-2 * 10**9, 10**9)
+    change, at = _structures.Change(), source.randrange(-2 * 10**9, 10**9)
     local = [source.randrange(-2 * 10**9, 4 * 10**9) for _ in range(20)]
     for _ in range(25):
         if _library.following(zone._zone, at, change) != _library.OK:

@@ -11,7 +11,7 @@ from datetime import date, datetime, timedelta, timezone
 
 import tz
 from test_zone import PARIS, zone_of
-from tz import ZoneInfo, _library, _zone
+from tz import ZoneInfo, _library, _structures, _zone
 
 EPOCH, SECOND = datetime(1970, 1, 1), timedelta(seconds=1)
 CALLS = "utcoffset", "tzname", "dst", "fromutc"
@@ -34,7 +34,7 @@ def answer(call, *arguments):
 
 
 def changes(zone, after=-(1 << 42), before=1 << 33):
-    change = _library.Change()
+    change = _structures.Change()
     while _library.following(zone._zone, after, change) == _library.OK and after < before:
         after = change.unix_time
         yield after, change.before.ut_offset, change.after.ut_offset
@@ -99,7 +99,7 @@ class Beside(unittest.TestCase):
                 ours = Time(2000, 10, 29, hour, 30, fold=fold, tzinfo=zone)
                 theirs = Time(2000, 10, 29, hour, 30, fold=fold, tzinfo=other)
                 for name in CALLS:
-                    found, expected = (getattr(t.tzinfo, name)(t) for t in (ours, theirs))
+                    found, expected = (getattr(time.tzinfo, name)(time) for time in (ours, theirs))
                     if name == "fromutc":
                         self.assertIs(type(found), Time)
                         self.assertEqual(found.fold, expected.fold)

@@ -16,7 +16,7 @@ from datetime import datetime, timedelta
 from zoneinfo._common import load_data
 
 import tz
-from tz import _library
+from tz import _library, _structures
 
 EPOCH, SECOND = datetime(1970, 1, 1), timedelta(seconds=1)
 # Years whose changes by a rule are compared, after those of the tables.
@@ -52,7 +52,7 @@ def transitions(data):
 
 def changes_by_rule(zone):
     """The changes of this module's clock in years of the rule."""
-    change = _library.Change()
+    change = _structures.Change()
     for year in RULE_YEARS:
         at, end = instant_of(datetime(year, 1, 1)), instant_of(datetime(year + 1, 1, 1))
         while _library.following(zone._zone, at, change) == _library.OK and change.unix_time < end:

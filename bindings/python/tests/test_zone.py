@@ -21,7 +21,7 @@ from pathlib import Path
 from unittest import mock
 
 import tz
-from tz import TzError, ZoneInfo, ZoneInfoNotFoundError, _library
+from tz import TzError, ZoneInfo, ZoneInfoNotFoundError, _library, _structures
 
 HOUR = timedelta(hours=1)
 PARIS = "Europe/Paris"
@@ -241,7 +241,7 @@ class Strings(unittest.TestCase):
     def test_types(self):
         """A zone of a TZ string has one type beside its rule: standard time."""
         zone = ZoneInfo.from_tz_string("AAA-1BBB,J60,J300")
-        types = _library.LocalTimeType.from_address(zone._zone.parts.types)
+        types = _structures.LocalTimeType.from_address(zone._zone.parts.types)
         self.assertEqual(zone._zone.parts.types_length, 1)
         self.assertEqual((types.designation, types.is_dst), (b"AAA", False))
         self.assertEqual((zone._least, zone._greatest), (3600, 7200))
@@ -416,7 +416,7 @@ class Times(unittest.TestCase):
     def test_kept_spans_change_no_answer(self):
         """A zone that has answered often, beside one that has forgotten everything each time."""
         kept, forgetful = ZoneInfo.no_cache(PARIS), ZoneInfo.no_cache(PARIS)
-        source, change = random.Random(1), _library.Change()
+        source, change = random.Random(1), _structures.Change()
         for _ in range(20000):
             year = source.choice((source.randrange(1900, 2100), source.randrange(2, 9999)))
             at = int((datetime(year, 1, 1) - datetime(1970, 1, 1)).total_seconds())
@@ -455,7 +455,7 @@ class Module(unittest.TestCase):
     def test_layout_of_another_version(self):
         with mock.patch.object(_library, "ABI", 0), self.assertRaises(ImportError):
             _library.check_layout()
-        layout = (*_library.LAYOUT[:9], _library.Sizes, *_library.LAYOUT[10:])
+        layout = (*_structures.LAYOUT[:9], _structures.Sizes, *_structures.LAYOUT[10:])
         with mock.patch.object(_library, "LAYOUT", layout), self.assertRaises(ImportError):
             _library.check_layout()
 
@@ -468,7 +468,7 @@ class Module(unittest.TestCase):
         self.assertEqual(sorted(strings), list(_library.STRING_CODES))
         for name, value in {
             "ABI": _library.ABI,
-            "LAYOUT_LENGTH": 1 + len(_library.LAYOUT),
+            "LAYOUT_LENGTH": 1 + len(_structures.LAYOUT),
             "OK": _library.OK,
             "NO_AVAILABLE_LOCAL_TIME_TYPE": _library.NO_TYPE,
             "NO_CHANGE": _library.NO_CHANGE,

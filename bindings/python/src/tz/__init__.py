@@ -19,7 +19,8 @@ import zoneinfo as _zoneinfo
 from typing import Any, List, Set
 from zoneinfo import InvalidTZPathWarning, ZoneInfoNotFoundError, reset_tzpath
 
-from ._library import LocalTime, TzError, built_in_names, built_in_version, error_text
+from ._library import TzError, built_in_names, built_in_version, error_text
+from ._structures import LocalTime
 from ._zone import ZoneInfo, implementation
 
 # The release, as TZ_VERSION of tz.h.

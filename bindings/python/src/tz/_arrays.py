@@ -9,7 +9,8 @@ from ctypes import byref, sizeof
 from typing import Any, Callable, NamedTuple, Optional
 
 from . import _columns, _library
-from ._library import OK, DateTime, LocalTime, TzError, Zone, check
+from ._library import OK, TzError, check
+from ._structures import DateTime, LocalTime, Zone
 
 _TICKS = {"s": 1, "ms": 10**3, "us": 10**6, "ns": 10**9}  # of the units of datetime64, in a second
 _NAT, _GREATEST = -(1 << 63), (1 << 63) - 1
@@ -109,7 +110,7 @@ def offsets(zone: Zone, instants: Any, out: Any, codes: Any) -> Any:
         answer = _columns.offsets(zone, _integers("instants", instants), out, codes)
         return _like(instants)(answer) if out is None else answer
 
-    def fill(seconds: Any, values: Any, codes: Any, answer: Any) -> None:
+    def fill(seconds: Any, _values: Any, codes: Any, answer: Any) -> None:
         answer[:] = _offsets(zone, seconds, codes)
 
     return _answers(given, "timedelta64[s]", out, codes, fill)

@@ -8,7 +8,8 @@ from itertools import combinations
 from typing import Any, Optional, Sequence, Tuple
 
 from . import _library
-from ._library import OK, DateTime, LocalTime, LocalTimeType, Parts, TzError, Zone, check
+from ._library import OK, TzError, check
+from ._structures import DateTime, LocalTime, LocalTimeType, Parts, Zone
 
 _ORDER = "[@=<]?" if sys.byteorder == "little" else "[@=>!]?"
 # The fields of a LocalTime as numpy and ctypes describe them. Some ctypes leave out the padding

@@ -7,20 +7,6 @@ from pathlib import Path
 from typing import Any, Optional, Set
 
 from ._structures import ABI, CALLS, LAYOUT, LocalTimeType
-from ._structures import (  # noqa: F401, for the other modules
-    Alternate,
-    Change,
-    DateTime,
-    Found,
-    LeapSecond,
-    LocalTime,
-    Parts,
-    Rule,
-    Segment,
-    Sizes,
-    Transition,
-    Zone,
-)
 
 NONE, FIXED, ALTERNATE = range(3)  # kinds of rules
 OK, NO_TYPE, NO_CHANGE, MEMORY = 0, 2, 4, 255

@@ -16,7 +16,7 @@ from typing import TYPE_CHECKING, Any, BinaryIO, ClassVar, Dict, Iterable, List,
 from typing import Tuple
 from zoneinfo import ZoneInfoNotFoundError
 
-from . import _arrays, _library
+from . import _arrays, _library, _structures
 from ._library import check
 
 try:
@@ -50,9 +50,9 @@ class _Span:
 
     __slots__ = ("first", "last", "kind", "offset", "name", "saving")
 
-    def __init__(self, segment: _library.Segment) -> None:
+    def __init__(self, segment: _structures.Segment) -> None:
         self.first, self.last = segment.first, segment.last
-        self.kind = kind = _library.LocalTimeType.from_buffer_copy(segment.local_time_type)
+        self.kind = kind = _structures.LocalTimeType.from_buffer_copy(segment.local_time_type)
         self.offset = timedelta(seconds=kind.ut_offset)
         self.name = kind.designation.decode() if kind.designation_length else None
         self.saving: Optional[timedelta] = None
@@ -152,10 +152,10 @@ class ZoneInfo(zoneinfo.ZoneInfo):
         """
         if not isinstance(text, str):
             raise TypeError(f"a TZ string is a str, not {type(text).__name__}")
-        string, rule, zone = text.encode(errors="surrogatepass"), _library.Rule(), _library.Zone()
+        string, rule, zone = text.encode(errors="surrogatepass"), _structures.Rule(), _structures.Zone()
         check(_library.string_read(string, len(string), True, rule), repr(text))
         standard = rule.fixed if rule.kind == _library.FIXED else rule.alternate.types[0]
-        held = [(_library.LocalTimeType * 1)(standard), rule]
+        held = [(_structures.LocalTimeType * 1)(standard), rule]
         zone.parts.types, zone.parts.types_length = addressof(held[0]), 1
         _set_rule(zone.parts, rule)
         return cls._of_zone(zone, held, None, False, text, repr(text))
@@ -169,7 +169,7 @@ class ZoneInfo(zoneinfo.ZoneInfo):
 
     @classmethod
     def _of_library(cls, key: str, from_cache: bool) -> "Self":
-        zone, name = _library.Zone(), key.encode(errors="surrogatepass")
+        zone, name = _structures.Zone(), key.encode(errors="surrogatepass")
         if _library.built_in is None or not _library.built_in(name, len(name), zone):
             raise ZoneInfoNotFoundError(f"No time zone found with key {key}")
         return cls._of_zone(zone, [], key, from_cache, None, None)
@@ -181,11 +181,11 @@ class ZoneInfo(zoneinfo.ZoneInfo):
         if not isinstance(data, bytes):
             raise TypeError(f"a TZif file is read as bytes, not {type(data).__name__}")
         name = source if key is None else key
-        sizes, rule, zone = _library.Sizes(), _library.Rule(), _library.Zone()
+        sizes, rule, zone = _structures.Sizes(), _structures.Rule(), _structures.Zone()
         check(_library.file_sizes(data, len(data), sizes), name)
-        transitions = (_library.Transition * sizes.transitions)()
-        types = (_library.LocalTimeType * sizes.types)()
-        leap_seconds = (_library.LeapSecond * sizes.leap_seconds)()
+        transitions = (_structures.Transition * sizes.transitions)()
+        types = (_structures.LocalTimeType * sizes.types)()
+        leap_seconds = (_structures.LeapSecond * sizes.leap_seconds)()
         tables = [transitions, types, leap_seconds]
         slices = [part for table in tables for part in (table, len(table))]
         code = _library.file_read(data, len(data), *slices, rule, zone.offsets)
@@ -207,7 +207,7 @@ class ZoneInfo(zoneinfo.ZoneInfo):
     @classmethod
     def _of_zone(
         cls,
-        zone: _library.Zone,
+        zone: _structures.Zone,
         held: List[Any],
         key: Optional[str],
         from_cache: bool,
@@ -371,10 +371,10 @@ class ZoneInfo(zoneinfo.ZoneInfo):
 
     def _only_span(self) -> Optional[_Span]:
         """The span of a clock that never changes, which a time without a date has."""
-        if _library.following(self._zone, _LEAST_INSTANT, _library.Change()) != _library.NO_CHANGE:
+        if _library.following(self._zone, _LEAST_INSTANT, _structures.Change()) != _library.NO_CHANGE:
             return None
         # A clock may begin late: after 1970, or after all that a datetime can be.
-        segment = _library.Segment()
+        segment = _structures.Segment()
         check(_library.segment_at(self._zone, _LAST_INSTANT, segment))
         return _Span(segment) if segment.has_type else None
 
@@ -382,7 +382,7 @@ class ZoneInfo(zoneinfo.ZoneInfo):
         """The span around an instant."""
         span = self._spans.get(instant >> _SPAN_BITS)
         if span is None or not span.first <= instant <= span.last:
-            segment = _library.Segment()
+            segment = _structures.Segment()
             check(_library.segment_at(self._zone, instant, segment))
             if not segment.has_type:
                 check(_library.type_at(self._zone, instant, segment.local_time_type), str(self))
@@ -420,19 +420,19 @@ class ZoneInfo(zoneinfo.ZoneInfo):
             raise _library.TzError(_library.NO_TYPE, f"{self}: {dt.replace(tzinfo=None)}")
         return found[-1].after.unix_time if dt.fold else found[0].before.unix_time - 1
 
-    def _found(self, dt: datetime, *, last: bool) -> List[_library.Found]:
+    def _found(self, dt: datetime, *, last: bool) -> List[_structures.Found]:
         """The first two of all that a local time means, or the last two.
 
         That is the instants at which clocks show it, and the jumps over it: all of them, if clocks
         jump over it at these two and there are more.
         """
-        fields = _library.LocalTime(dt.year, dt.month, dt.day, dt.hour, dt.minute, dt.second, 0)
-        slots, count = (_library.Found * 2)(), c_size_t()
+        fields = _structures.LocalTime(dt.year, dt.month, dt.day, dt.hour, dt.minute, dt.second, 0)
+        slots, count = (_structures.Found * 2)(), c_size_t()
         check(_library.find_n(fields, self._zone, 0, slots, len(slots), byref(count)))
         if count.value > 2 and last:
             check(_library.find_n(fields, self._zone, count.value - 2, slots, 2, byref(count)))
         if count.value > 2 and all(entry.is_skipped for entry in slots):
-            slots = (_library.Found * count.value)()
+            slots = (_structures.Found * count.value)()
             check(_library.find_n(fields, self._zone, 0, slots, len(slots), byref(count)))
         return slots[: count.value]
 
@@ -443,7 +443,7 @@ class ZoneInfo(zoneinfo.ZoneInfo):
             return 0
         offsets = [self._standard_before(span.first), self._standard_after(span.last)]
         if parts.alternate_length:
-            standard, saving = _library.Alternate.from_address(parts.alternate).types
+            standard, saving = _structures.Alternate.from_address(parts.alternate).types
             if _library.same(kind, saving):
                 offsets.append(standard.ut_offset)
         amounts = [kind.ut_offset - offset for offset in offsets if offset is not None]
@@ -452,7 +452,7 @@ class ZoneInfo(zoneinfo.ZoneInfo):
 
     def _standard_before(self, first: int) -> Optional[int]:
         """The offset of the last standard time before a span that begins at an instant, if near."""
-        change, at = _library.Change(), first + 1
+        change, at = _structures.Change(), first + 1
         for _ in range(_MOST_CHANGES):
             if _library.preceding(self._zone, at, change) != _library.OK:
                 break
@@ -463,7 +463,7 @@ class ZoneInfo(zoneinfo.ZoneInfo):
 
     def _standard_after(self, last: int) -> Optional[int]:
         """The offset of the first standard time after a span that ends at an instant, if near."""
-        change, at = _library.Change(), last
+        change, at = _structures.Change(), last
         for _ in range(_MOST_CHANGES):
             if _library.following(self._zone, at, change) != _library.OK:
                 break
@@ -479,7 +479,7 @@ def _seconds(dt: datetime) -> int:
     return days * 86400 + dt.hour * 3600 + dt.minute * 60 + dt.second
 
 
-def _set_rule(parts: _library.Parts, rule: _library.Rule) -> None:
+def _set_rule(parts: _structures.Parts, rule: _structures.Rule) -> None:
     parts.fixed, parts.alternate = addressof(rule.fixed), addressof(rule.alternate)
     parts.fixed_length = rule.kind == _library.FIXED
     parts.alternate_length = rule.kind == _library.ALTERNATE
@@ -510,7 +510,7 @@ def _bytes_of_zone(key: str) -> Optional[bytes]:
 # How single calls are made: by the module in C, or by the methods above over ctypes.
 implementation = "ctypes"
 if _single is not None:
-    if _single.ABI != _library.ABI:
+    if _single.ABI != _structures.ABI:
         raise ImportError(f"{_single.__file__} is of another version: {_single.ABI}")
     _calls = [cast(call, c_void_p).value for call in (_library.segment_at, _library.find_n)]
     # These answer what the module in C does not.
