@@ -89,7 +89,7 @@ BUILDS = {
     'through-Rust': 'the generated crate of `bindings/rust`, by {rustc} with `lto`',
     'Rust-default': 'the same by cargo\'s default release profile, as most programs are built',
     'tz-rs': 'by {rustc} with `lto`',
-    **dict.fromkeys(('glibc', 'Abseil', 'cctz', 'date'), f'Debian\'s library, {DRIVEN}'),
+    **dict.fromkeys(('glibc', 'cctz', 'date'), f'Debian\'s library, {DRIVEN}'),
     'chrono-tz': 'by {rustc} with `lto` and one codegen unit',
     'Go': 'by its own compiler',
     'jiff': 'the port in the kit, by {kit} for x86-64-v2',

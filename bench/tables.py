@@ -23,7 +23,7 @@ PAGE = TOP / 'docs' / 'BENCHMARKS.md'
 COLUMNS = 100
 THROUGH = ('through-C', 'through-Rust', 'Rust-default')
 OWN = ('tz', 'through-Rust', 'Rust-default')
-PEERS = ('tz-rs', 'glibc', 'Abseil', 'cctz', 'date', 'chrono-tz', 'Go', 'jiff')
+PEERS = ('tz-rs', 'glibc', 'cctz', 'date', 'chrono-tz', 'Go', 'jiff')
 WIDTH, LEFT, BAR, HEAD, LONGEST = 900, 330, 11, 46, 4000
 COMPILERS = ('kit', 'rustc', 'g++')
 WORDS = ('none', 'one', 'two', 'three', 'four', 'five', 'six', 'seven', 'eight', 'nine', 'ten')
@@ -210,7 +210,7 @@ def of_versions(kept):
     shown = 'Lines, calls and times of tz were measured on {}, {} and {}, of the others on {}, {} and {}.'.format(*days)
     if len(set(days)) == 1:
         shown = f'All was measured on {days[0]}.'
-    text = (f'The peers are tz-rs {version["tz-rs"]}; from Debian {version["Debian"]} glibc {version["glibc"]}, Abseil {version["Abseil"]}, '
+    text = (f'The peers are tz-rs {version["tz-rs"]}; from Debian {version["Debian"]} glibc {version["glibc"]}, '
             f'cctz {version["cctz"]}, Hinnant\'s date {version["date"]}, chrono-tz {version["chrono-tz"]} and Go {version["Go"]}; and the Rattle '
             f'kit\'s port of jiff 0.2.39. {zones} {shown}')
     return filled(text)
