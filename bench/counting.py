@@ -20,7 +20,13 @@ SLOW_LONG_MANY, SLOW_LONG_FEW = 6, 2
 
 # The same for all programs and callers, since a longer one takes more instructions. Go's runtime sends itself signals, which valgrind does not always bear,
 # and its counts vary less on one processor, and where it collects nothing.
-ENVIRONMENT = {'PATH': '/usr/local/bin:/usr/bin:/bin', 'LC_ALL': 'C', 'GODEBUG': 'asyncpreemptoff=1', 'GOMAXPROCS': '1', 'GOGC': 'off'}
+ENVIRONMENT = {
+    'PATH': '/usr/local/bin:/usr/bin:/bin',
+    'LC_ALL': 'C',
+    'GODEBUG': 'asyncpreemptoff=1',
+    'GOMAXPROCS': '1',
+    'GOGC': 'off',
+}
 TRIES = 5
 REFUSED = 3
 
@@ -40,7 +46,16 @@ def run(command, given=b''):
 def count(program, arguments, given=b''):
     """The instructions of a run, and what it printed."""
     for _ in range(TRIES):
-        done = run(['valgrind', '--tool=callgrind', '--callgrind-out-file=' + os.devnull, program, *arguments], given)
+        done = run(
+            [
+                'valgrind',
+                '--tool=callgrind',
+                '--callgrind-out-file=' + os.devnull,
+                program,
+                *arguments,
+            ],
+            given,
+        )
         found = re.search(rb'Collected : (\d+)', done.stderr)
         if found and not done.returncode:
             return int(found[1]), done.stdout.decode()
@@ -65,13 +80,19 @@ def processor_time(command, given):
 
 def is_slow(program, arguments, given, words, some=20):
     """Whether this many lines or calls take more than a slow program's each."""
-    return count(program, arguments + words[0], given[0])[0] - count(program, arguments + words[1], given[1])[0] > some * SLOW
+    return (
+        count(program, arguments + words[0], given[0])[0]
+        - count(program, arguments + words[1], given[1])[0]
+        > some * SLOW
+    )
 
 
 def of_a_line(program, arguments, row):
     """The instructions of a row's line, start-up taken off."""
     few, many = FEW, MANY
-    if row.zone.name == '100000 transitions' and is_slow(program, arguments, (input_of(row.queries[:20]), b''), ([], [])):
+    if row.zone.name == '100000 transitions' and is_slow(
+        program, arguments, (input_of(row.queries[:20]), b''), ([], [])
+    ):
         few, many = SLOW_FEW, SLOW_MANY
     counted = [count(program, arguments, input_of(row.queries[:lines]))[0] for lines in (few, many)]
     return round((counted[1] - counted[0]) / (many - few))
@@ -79,7 +100,13 @@ def of_a_line(program, arguments, row):
 
 def program_of(program, call):
     """The program that makes a call: one beside it, if there is one, for the calls that are apart or alone."""
-    beside = f'{program}_apart' if call in rows.APART_CALLS else f'{program}_{call}' if call in rows.ALONE_CALLS else program
+    beside = (
+        f'{program}_apart'
+        if call in rows.APART_CALLS
+        else f'{program}_{call}'
+        if call in rows.ALONE_CALLS
+        else program
+    )
     return beside if os.path.exists(beside) else program
 
 
@@ -89,26 +116,42 @@ def of_calls(program, arguments, row):
     few, many = (LONG_FEW, LONG_MANY) if row.is_long else (FEW, MANY)
     given = input_of(row.words)
     some = 2 if row.is_long else 20
-    if row.zone.name == '100000 transitions' and is_slow(program, arguments, (given, given), ([row.call, str(some)], [row.call, '0']), some):
+    if row.zone.name == '100000 transitions' and is_slow(
+        program, arguments, (given, given), ([row.call, str(some)], [row.call, '0']), some
+    ):
         few, many = (SLOW_LONG_FEW, SLOW_LONG_MANY) if row.is_long else (SLOW_FEW, SLOW_MANY)
-    counted, sums = zip(*(count(program, [*arguments, row.call, str(times)], given) for times in (few, many)))
+    counted, sums = zip(
+        *(count(program, [*arguments, row.call, str(times)], given) for times in (few, many))
+    )
     return (counted[1] - counted[0]) / (many - few), many, int(sums[1].split()[1])
 
 
 def loops_of(program, arguments, words):
     """The instructions of the loops that only read the words."""
-    return {loop: (count(program, [*arguments, loop, str(MANY)], given)[0] - count(program, [*arguments, loop, str(FEW)], given)[0]) / (MANY - FEW)
-            for loop, given in ((loop, input_of(words[loop])) for loop in ('instant', 'local'))}
+    return {
+        loop: (
+            count(program, [*arguments, loop, str(MANY)], given)[0]
+            - count(program, [*arguments, loop, str(FEW)], given)[0]
+        )
+        / (MANY - FEW)
+        for loop, given in ((loop, input_of(words[loop])) for loop in ('instant', 'local'))
+    }
 
 
 def loop_words(zones, seed):
     """Words for the loops."""
-    return {'instant': rows.words('instants', zones.fixed, MANY, seed), 'local': rows.words('local times', zones.fixed, MANY, seed)}
+    return {
+        'instant': rows.words('instants', zones.fixed, MANY, seed),
+        'local': rows.words('local times', zones.fixed, MANY, seed),
+    }
 
 
 def named(programs):
     """The programs' names and paths: NAME=PATH, or a path, the first of which is tz and the second tz-rs."""
-    return [program.split('=', 1) if '=' in program else (name, program) for program, name in zip(programs, ['tz', 'tz-rs', *programs[2:]])]
+    return [
+        program.split('=', 1) if '=' in program else (name, program)
+        for program, name in zip(programs, ['tz', 'tz-rs', *programs[2:]])
+    ]
 
 
 def command(doc, section, counted):
@@ -133,7 +176,12 @@ def command(doc, section, counted):
             elif given.json:
                 for (program, _), figure in zip(programs, counts):
                     stored.put(section, name, program, figure)
-            print(f'{name:56}' + ''.join(f'{"–" if figure is None else figure:>10}' for figure in counts) + behind, flush=True)
+            print(
+                f'{name:56}'
+                + ''.join(f'{"–" if figure is None else figure:>10}' for figure in counts)
+                + behind,
+                flush=True,
+            )
     if given.json:
         stored.write()
     sys.exit(is_above)

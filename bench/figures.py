@@ -44,7 +44,11 @@ class Figures:
         """Writes the file, a line for each row."""
         sections = []
         for section, rows in self.sections.items():
-            lines = ',\n'.join(f'  {json.dumps(name)}: {json.dumps(figures)}' for name, figures in rows.items() if figures)
+            lines = ',\n'.join(
+                f'  {json.dumps(name)}: {json.dumps(figures)}'
+                for name, figures in rows.items()
+                if figures
+            )
             sections.append(f' {json.dumps(section)}: {{\n{lines}\n }}')
         with open(self.path, 'w') as file:
             file.write('{\n' + ',\n'.join(sections) + '\n}\n')
@@ -55,4 +59,7 @@ class Figures:
         if stored is None:
             return '   NONE STORED', True
         is_above = figure > MOST * stored
-        return f'   stored {stored:6} x {figure / stored:.2f}' + ('   ABOVE' if is_above else ''), is_above
+        return (
+            f'   stored {stored:6} x {figure / stored:.2f}' + ('   ABOVE' if is_above else ''),
+            is_above,
+        )

@@ -18,30 +18,52 @@ SEED = 7
 
 # The instructions that some calls are meant to take at most.
 GOALS = {
-    '`DateTime::from_timespec`, fixed offset': 110, '`DateTime::from_timespec`, random, Paris': 150,
-    '`DateTime::from_timespec`, sorted, Paris': 150, '`DateTime::from_timespec`, past the table, Paris': 190,
-    '`DateTime::from_timespec`, random, TZ string': 185, '`DateTime::from_timespec`, 100000 transitions': 250,
+    '`DateTime::from_timespec`, fixed offset': 110,
+    '`DateTime::from_timespec`, random, Paris': 150,
+    '`DateTime::from_timespec`, sorted, Paris': 150,
+    '`DateTime::from_timespec`, past the table, Paris': 190,
+    '`DateTime::from_timespec`, random, TZ string': 185,
+    '`DateTime::from_timespec`, 100000 transitions': 250,
     '`DateTime::from_timespec`, leap seconds': 400,
-    '`DateTime::find`, random, Paris': 345, '`DateTime::find`, at jumps, Paris': 490, '`DateTime::find`, past the table, Paris': 385,
-    '`DateTime::find`, random, TZ string': 385, '`DateTime::find`, at jumps, TZ string': 455,
-    '`DateTime::find`, random, 100000 transitions': 620, '`DateTime::find`, leap seconds': 1000,
-    '`DateTime::find_n`, fixed offset': 115, '`DateTime::find_n`, random, Paris': 172, '`DateTime::find_n`, at jumps, Paris': 215,
-    '`DateTime::find_n`, past the table, Paris': 205, '`DateTime::find_n`, random, TZ string': 205,
-    '`DateTime::find_n`, at jumps, TZ string': 275, '`DateTime::find_n`, random, 100000 transitions': 440,
+    '`DateTime::find`, random, Paris': 345,
+    '`DateTime::find`, at jumps, Paris': 490,
+    '`DateTime::find`, past the table, Paris': 385,
+    '`DateTime::find`, random, TZ string': 385,
+    '`DateTime::find`, at jumps, TZ string': 455,
+    '`DateTime::find`, random, 100000 transitions': 620,
+    '`DateTime::find`, leap seconds': 1000,
+    '`DateTime::find_n`, fixed offset': 115,
+    '`DateTime::find_n`, random, Paris': 172,
+    '`DateTime::find_n`, at jumps, Paris': 215,
+    '`DateTime::find_n`, past the table, Paris': 205,
+    '`DateTime::find_n`, random, TZ string': 205,
+    '`DateTime::find_n`, at jumps, TZ string': 275,
+    '`DateTime::find_n`, random, 100000 transitions': 440,
     '`TimeZoneRef::find_local_time_type`, random, Paris': 140,
-    '`DateTime::find_one`, random, Paris': 160, '`DateTime::find_one`, at jumps, Paris': 200,
-    '`DateTime::meaning`, random, Paris': 165, '`DateTime::from_local`, random, Paris': 175,
-    '`TimeZoneRef::following`, random, Paris': 95, 'next of `changes_after`, 1900 to 2100, Paris': 108,
+    '`DateTime::find_one`, random, Paris': 160,
+    '`DateTime::find_one`, at jumps, Paris': 200,
+    '`DateTime::meaning`, random, Paris': 165,
+    '`DateTime::from_local`, random, Paris': 175,
+    '`TimeZoneRef::following`, random, Paris': 95,
+    'next of `changes_after`, 1900 to 2100, Paris': 108,
     'next of `changes_before`, 2100 to 1900, Paris': 128,
-    '`UtcDateTime::new` and `unix_time`': 60, '`UtcDateTime::checked_add` and `unix_time`': 100,
-    '`TimeZone::from_tz_data`, Paris': 8000, '`TimeZone::from_tz_data`, 100000 transitions': 2500000,
+    '`UtcDateTime::new` and `unix_time`': 60,
+    '`UtcDateTime::checked_add` and `unix_time`': 100,
+    '`TimeZone::from_tz_data`, Paris': 8000,
+    '`TimeZone::from_tz_data`, 100000 transitions': 2500000,
     '`TimeZone::from_posix_tz`, failing reader, TZ string': 2600,
-    '`TimeZoneSettings` without directories, TZ string': 2600, '`AlternateTime::new`, TZ string': 1200, '`AlternateTime::new`, days that meet': 5000,
+    '`TimeZoneSettings` without directories, TZ string': 2600,
+    '`AlternateTime::new`, TZ string': 1200,
+    '`AlternateTime::new`, days that meet': 5000,
 }
 
 
 # Rows that README.md says nothing of: it speaks of zones with transitions or a rule, and of usual calls.
-APART = ('`DateTime::from_timespec`, fixed offset', '`DateTime::find_n`, fixed offset', '`TimeZoneRef::following`, rule without a change')
+APART = (
+    '`DateTime::from_timespec`, fixed offset',
+    '`DateTime::find_n`, fixed offset',
+    '`TimeZoneRef::following`, rule without a change',
+)
 
 
 # Calls that make a function which another call makes too, so that the compiler would keep it out of line for both: a program of its own makes them,
@@ -53,7 +75,11 @@ SHARED_CALLS = ('find_one',)
 
 
 # Calls over whole columns, which the bindings alone have, and the call of tz whose answers those of each place are, if there is one.
-COLUMN_CALLS = {'column_offsets': None, 'column_date_times': 'from_timespec', 'column_instants': 'find_one'}
+COLUMN_CALLS = {
+    'column_offsets': None,
+    'column_date_times': 'from_timespec',
+    'column_instants': 'find_one',
+}
 
 
 # Rows of lines that no other program answers.
@@ -69,11 +95,17 @@ REASONS = {
     'e': 'checks that the transitions of a file rise, which glibc does not.',
 }
 BEHIND = {
-    '`DateTime::find`, fixed offset': 'ab', '`DateTime::find`, random, Paris': 'b', '`DateTime::find`, at jumps, Paris': 'b',
-    '`DateTime::find`, at jumps, TZ string': 'b', '`DateTime::find`, random, 100000 transitions': 'b',
-    '`DateTime::find`, weekly, Paris': 'b', '`DateTime::find_n`, fixed offset': 'a',
+    '`DateTime::find`, fixed offset': 'ab',
+    '`DateTime::find`, random, Paris': 'b',
+    '`DateTime::find`, at jumps, Paris': 'b',
+    '`DateTime::find`, at jumps, TZ string': 'b',
+    '`DateTime::find`, random, 100000 transitions': 'b',
+    '`DateTime::find`, weekly, Paris': 'b',
+    '`DateTime::find_n`, fixed offset': 'a',
     '`TimeZone::from_posix_tz`, TZ string': 'c',
-    '`TimeZoneSettings` without directories, TZ string': 'd', '`AlternateTime::new`, TZ string': 'd', '`AlternateTime::new`, days that meet': 'd',
+    '`TimeZoneSettings` without directories, TZ string': 'd',
+    '`AlternateTime::new`, TZ string': 'd',
+    '`AlternateTime::new`, days that meet': 'd',
     '`TimeZone::from_tz_data`, 100000 transitions': 'e',
     'time of `DateTime::find`, random, Paris': 'b',
     'time of `DateTime::find_n`, at jumps, Paris': 'a',
@@ -98,6 +130,7 @@ BUILDS = {
 
 class Zone(NamedTuple):
     """A zone: tzq's arguments, the TZif file for programs that read no TZ strings, the jumps of its clock, and the year before which its table ends."""
+
     name: str
     arguments: list
     file: str
@@ -107,6 +140,7 @@ class Zone(NamedTuple):
 
 class Lines(NamedTuple):
     """A row of query lines."""
+
     name: str
     zone: Zone
     queries: list
@@ -114,6 +148,7 @@ class Lines(NamedTuple):
 
 class Calls(NamedTuple):
     """A row of calls. Its words are instants in seconds, or local times as 20001029023000."""
+
     name: str
     call: str
     zone: Zone
@@ -138,17 +173,31 @@ class Zones:
         # Its offset is the same since 1945.
         jumps = lines.jumps_of_file(kolkata)
         self.kolkata = Zone('Kolkata', ['-f', kolkata], kolkata, jumps)
-        self.string = Zone('TZ string', ['-z', STRING], string, lines.jumps_of_string(STRING, 1900, 3000))
+        self.string = Zone(
+            'TZ string', ['-z', STRING], string, lines.jumps_of_string(STRING, 1900, 3000)
+        )
         self.many = Zone('100000 transitions', ['-f', many], many, lines.jumps_of_file(many))
         # The clock of its leap seconds jumps at the same instants.
-        self.leaps = Zone('leap seconds', ['-f', leaps], leaps, lines.jumps_of_file(paris), lines.last_year_of_file(leaps))
+        self.leaps = Zone(
+            'leap seconds',
+            ['-f', leaps],
+            leaps,
+            lines.jumps_of_file(paris),
+            lines.last_year_of_file(leaps),
+        )
         self.constant = Zone('rule without a change', ['-z', CONSTANT], '', [])
         self.meeting = Zone('days that meet', ['-z', MEETING], '', [])
 
 
 def query_lines(zones, count, seed=SEED):
     """The rows of lines."""
-    fixed, paris, text, many, leaps = zones.fixed, zones.paris, zones.string, zones.many, zones.leaps
+    fixed, paris, text, many, leaps = (
+        zones.fixed,
+        zones.paris,
+        zones.string,
+        zones.many,
+        zones.leaps,
+    )
     rng = lines.generator(seed)
     yield Lines('T, fixed offset', fixed, lines.log_instants(rng, count))
     yield Lines('T, nearly sorted, Paris', paris, lines.log_instants(rng, count))
@@ -156,23 +205,47 @@ def query_lines(zones, count, seed=SEED):
     yield Lines('T, past the table, Paris', paris, lines.random_instants(rng, count, 2100, 3000))
     yield Lines('T, nearly sorted, TZ string', text, lines.log_instants(rng, count))
     yield Lines('T, random, TZ string', text, lines.random_instants(rng, count))
-    yield Lines('T, random, 100000 transitions', many, lines.random_instants(rng, count, 2016, 2024))
+    yield Lines(
+        'T, random, 100000 transitions', many, lines.random_instants(rng, count, 2016, 2024)
+    )
     yield Lines('T, random, leap seconds', leaps, lines.random_instants(rng, count))
     yield Lines('F, fixed offset', fixed, lines.random_readings(rng, count))
     yield Lines('F, random, Paris', paris, lines.random_readings(rng, count))
     yield Lines('F, past the table, Paris', paris, lines.random_readings(rng, count, 2100, 3000))
-    yield Lines('F, at jumps, Paris', paris, lines.readings_at_jumps(rng, count, lines.jumps_of_file(paris.file)))
+    yield Lines(
+        'F, at jumps, Paris',
+        paris,
+        lines.readings_at_jumps(rng, count, lines.jumps_of_file(paris.file)),
+    )
     yield Lines('F, random, TZ string', text, lines.random_readings(rng, count))
-    yield Lines('F, at jumps, TZ string', text, lines.readings_at_jumps(rng, count, lines.jumps_of_string(STRING, FIRST, LAST)))
-    yield Lines('F, random, 100000 transitions', many, lines.random_readings(rng, count, 2016, 2024))
-    yield Lines('F, at jumps, 100000 transitions', many, lines.readings_at_jumps(rng, count, many.jumps, 2016, 2024))
+    yield Lines(
+        'F, at jumps, TZ string',
+        text,
+        lines.readings_at_jumps(rng, count, lines.jumps_of_string(STRING, FIRST, LAST)),
+    )
+    yield Lines(
+        'F, random, 100000 transitions', many, lines.random_readings(rng, count, 2016, 2024)
+    )
+    yield Lines(
+        'F, at jumps, 100000 transitions',
+        many,
+        lines.readings_at_jumps(rng, count, many.jumps, 2016, 2024),
+    )
     yield Lines('F, random, leap seconds', leaps, lines.random_readings(rng, count))
-    yield Lines('W, ten weeks, Paris', paris, ['W 10' + line[1:] for line in lines.random_readings(rng, count)])
+    yield Lines(
+        'W, ten weeks, Paris',
+        paris,
+        ['W 10' + line[1:] for line in lines.random_readings(rng, count)],
+    )
 
 
 # The rows of lines that are timed too.
 TIMED_LINES = ('T, nearly sorted, Paris', 'T, random, Paris', 'F, random, Paris')
-STARTS = ('to start, fixed offset', 'fixed'), ('to start, Paris', 'paris'), ('to start, TZ string', 'string')
+STARTS = (
+    ('to start, fixed offset', 'fixed'),
+    ('to start, Paris', 'paris'),
+    ('to start, TZ string', 'string'),
+)
 
 
 def word_of(line):
@@ -180,13 +253,23 @@ def word_of(line):
     parts = line.split()
     if parts[0] == 'W':
         del parts[1]
-    return int(parts[1]) if parts[0] == 'T' else int(''.join(f'{int(part):02}' for part in parts[1:7]))
+    return (
+        int(parts[1]) if parts[0] == 'T' else int(''.join(f'{int(part):02}' for part in parts[1:7]))
+    )
 
 
 def reading_of(word):
     """The seconds from 1970 that a local time's clock shows."""
     text = f'{word:014}'
-    return calendar.timegm((int(text[:-10]), *(int(text[at:at + 2]) for at in range(len(text) - 10, len(text), 2)), 0, 0, 0))
+    return calendar.timegm(
+        (
+            int(text[:-10]),
+            *(int(text[at : at + 2]) for at in range(len(text) - 10, len(text), 2)),
+            0,
+            0,
+            0,
+        )
+    )
 
 
 def words(how, zone, count, seed, years=None):
@@ -204,7 +287,9 @@ def words(how, zone, count, seed, years=None):
         'far instants': lambda: lines.random_instants(rng, count, 2100, 3000),
         'local times': lambda: lines.random_readings(rng, count, *(within or (FIRST, LAST))),
         'far local times': lambda: lines.random_readings(rng, count, 2100, 3000),
-        'local times at jumps': lambda: lines.readings_at_jumps(rng, count, zone.jumps, *(within or (FIRST, LAST))),
+        'local times at jumps': lambda: lines.readings_at_jumps(
+            rng, count, zone.jumps, *(within or (FIRST, LAST))
+        ),
         'weekly local times': lambda: lines.weekly_readings(count, FIRST),
     }
     return [word_of(line) for line in rows[how]()]
@@ -212,7 +297,13 @@ def words(how, zone, count, seed, years=None):
 
 def calls(zones, count, seed=SEED):
     """The rows of calls."""
-    fixed, paris, text, many, leaps = zones.fixed, zones.paris, zones.string, zones.many, zones.leaps
+    fixed, paris, text, many, leaps = (
+        zones.fixed,
+        zones.paris,
+        zones.string,
+        zones.many,
+        zones.leaps,
+    )
 
     def row(name, call, zone, how, long=False):
         return Calls(name, call, zone, words(how, zone, count, seed), long)
@@ -220,11 +311,18 @@ def calls(zones, count, seed=SEED):
     yield row('`DateTime::from_timespec`, fixed offset', 'from_timespec', fixed, 'instants')
     yield row('`DateTime::from_timespec`, random, Paris', 'from_timespec', paris, 'instants')
     yield row('`DateTime::from_timespec`, sorted, Paris', 'from_timespec', paris, 'sorted instants')
-    yield row('`DateTime::from_timespec`, past the table, Paris', 'from_timespec', paris, 'far instants')
+    yield row(
+        '`DateTime::from_timespec`, past the table, Paris', 'from_timespec', paris, 'far instants'
+    )
     yield row('`DateTime::from_timespec`, random, TZ string', 'from_timespec', text, 'instants')
     yield row('`DateTime::from_timespec`, 100000 transitions', 'from_timespec', many, 'instants')
     yield row('`DateTime::from_timespec`, leap seconds', 'from_timespec', leaps, 'instants')
-    yield row('`TimeZoneRef::find_local_time_type`, random, Paris', 'find_local_time_type', paris, 'instants')
+    yield row(
+        '`TimeZoneRef::find_local_time_type`, random, Paris',
+        'find_local_time_type',
+        paris,
+        'instants',
+    )
     for call in ('find', 'find_n'):
         shown = f'`DateTime::{call}`'
         yield row(f'{shown}, fixed offset', call, fixed, 'local times')
@@ -241,35 +339,83 @@ def calls(zones, count, seed=SEED):
     yield row('`DateTime::find_one`, at jumps, Paris', 'find_one', paris, 'local times at jumps')
     yield row('`DateTime::meaning`, random, Paris', 'meaning', paris, 'local times')
     yield row('`DateTime::meaning`, at jumps, Paris', 'meaning', paris, 'local times at jumps')
-    yield row('`DateTime::from_local`, random, Paris', 'from_local', paris, 'instants of local years')
-    yield row('place of a column of offsets, sorted, Paris', 'column_offsets', paris, 'sorted instants')
+    yield row(
+        '`DateTime::from_local`, random, Paris', 'from_local', paris, 'instants of local years'
+    )
+    yield row(
+        'place of a column of offsets, sorted, Paris', 'column_offsets', paris, 'sorted instants'
+    )
     yield row('place of a column of offsets, random, Paris', 'column_offsets', paris, 'instants')
-    yield row('place of a column of date times, one in 45 minutes, Paris', 'column_date_times', paris, 'dense instants')
-    yield row('place of a column of date times, sorted, Paris', 'column_date_times', paris, 'sorted instants')
-    yield row('place of a column of date times, random, Paris', 'column_date_times', paris, 'instants')
-    yield row('place of a column of instants, random, Paris', 'column_instants', paris, 'local times')
+    yield row(
+        'place of a column of date times, one in 45 minutes, Paris',
+        'column_date_times',
+        paris,
+        'dense instants',
+    )
+    yield row(
+        'place of a column of date times, sorted, Paris',
+        'column_date_times',
+        paris,
+        'sorted instants',
+    )
+    yield row(
+        'place of a column of date times, random, Paris', 'column_date_times', paris, 'instants'
+    )
+    yield row(
+        'place of a column of instants, random, Paris', 'column_instants', paris, 'local times'
+    )
     yield row('`TimeZoneRef::following`, random, Paris', 'following', paris, 'instants')
     yield row('`TimeZoneRef::following`, random, TZ string', 'following', text, 'instants')
-    yield row('`TimeZoneRef::following`, rule without a change', 'following', zones.constant, 'instants', long=True)
+    yield row(
+        '`TimeZoneRef::following`, rule without a change',
+        'following',
+        zones.constant,
+        'instants',
+        long=True,
+    )
     for call in ('preceding', 'segment_at'):
         shown = f'`TimeZoneRef::{call}`'
         yield row(f'{shown}, random, Paris', call, paris, 'instants')
         yield row(f'{shown}, random, TZ string', call, text, 'instants')
         yield row(f'{shown}, leap seconds', call, leaps, 'instants')
-    yield row('`TimeZoneRef::preceding`, rule without a change', 'preceding', zones.constant, 'instants', long=True)
-    yield row('`DateTime` by a kept `Segment`, sorted, Paris', 'kept_segment', paris, 'sorted instants')
+    yield row(
+        '`TimeZoneRef::preceding`, rule without a change',
+        'preceding',
+        zones.constant,
+        'instants',
+        long=True,
+    )
+    yield row(
+        '`DateTime` by a kept `Segment`, sorted, Paris', 'kept_segment', paris, 'sorted instants'
+    )
     yield row('next of `changes_after`, 1900 to 2100, Paris', 'walk', paris, 'instants')
     yield row('next of `changes_before`, 2100 to 1900, Paris', 'walk_back', paris, 'instants')
     yield row('`Display` into a new string, Paris', 'display', paris, 'instants of local years')
-    yield row('`ParsedDateTime::parse` and `unix_time`, Paris', 'parse', paris, 'instants of local years')
+    yield row(
+        '`ParsedDateTime::parse` and `unix_time`, Paris', 'parse', paris, 'instants of local years'
+    )
     yield row('`UtcDateTime::from_timespec`', 'utc_from_timespec', fixed, 'instants')
     yield row('`UtcDateTime::new` and `unix_time`', 'utc_new', fixed, 'local times')
     yield row('`UtcDateTime::checked_add` and `unix_time`', 'utc_add', fixed, 'instants')
     yield row('`TimeZone::from_tz_data`, Paris', 'from_tz_data', paris, 'instants', long=True)
-    yield row('`TimeZone::from_tz_data`, 100000 transitions', 'from_tz_data', many, 'instants', long=True)
+    yield row(
+        '`TimeZone::from_tz_data`, 100000 transitions', 'from_tz_data', many, 'instants', long=True
+    )
     yield row('`TimeZone::from_posix_tz`, TZ string', 'from_posix_tz', text, 'instants', long=True)
-    yield row('`TimeZone::from_posix_tz`, failing reader, TZ string', 'failing_reader', text, 'instants', long=True)
-    yield row('`TimeZoneSettings` without directories, TZ string', 'parse_string', text, 'instants', long=True)
+    yield row(
+        '`TimeZone::from_posix_tz`, failing reader, TZ string',
+        'failing_reader',
+        text,
+        'instants',
+        long=True,
+    )
+    yield row(
+        '`TimeZoneSettings` without directories, TZ string',
+        'parse_string',
+        text,
+        'instants',
+        long=True,
+    )
     yield row('`TzString::from_rule`, TZ string', 'from_rule', text, 'instants')
     yield row('`AlternateTime::new`, TZ string', 'rule', text, 'instants', long=True)
     yield row('`AlternateTime::new`, days that meet', 'rule', zones.meeting, 'instants', long=True)
@@ -308,7 +454,11 @@ def timed_calls(zones, count, seed=SEED):
 
 def loop_of(call):
     """The loop around a call, which is taken off its figure: it reads local times or instants."""
-    return 'local' if call in ('find', 'find_n', 'find_one', 'meaning', 'column_instants', 'utc_new') else 'instant'
+    return (
+        'local'
+        if call in ('find', 'find_n', 'find_one', 'meaning', 'column_instants', 'utc_new')
+        else 'instant'
+    )
 
 
 def search_of(name):

@@ -21,7 +21,11 @@ def libraries_of(uses):
     """The crates of the repository that these words of crates.txt name, and those below them."""
     found, left = set(), uses.split()
     with open(f'{TOP}/crates.txt') as file:
-        below = {line.split()[0].rstrip(':'): line.split(':')[1] for line in file if ':' in line and not line.startswith('#')}
+        below = {
+            line.split()[0].rstrip(':'): line.split(':')[1]
+            for line in file
+            if ':' in line and not line.startswith('#')
+        }
     while left:
         name = left.pop()
         if name in below and name not in found:
@@ -37,7 +41,11 @@ def checksum(name, uses, text, is_over_libraries):
     made_of.update(pathlib.Path(text).read_bytes())
     for library in libraries_of(uses) if is_over_libraries else []:
         for folder in ('src', 'specs', 'proofs'):
-            for path in sorted(path for path in pathlib.Path(f'{TOP}/crates/{library}/{folder}').rglob('*') if path.is_file()):
+            for path in sorted(
+                path
+                for path in pathlib.Path(f'{TOP}/crates/{library}/{folder}').rglob('*')
+                if path.is_file()
+            ):
                 made_of.update(str(path.relative_to(TOP)).encode() + path.read_bytes())
     return made_of.hexdigest()
 
@@ -47,7 +55,11 @@ def built_program(folder, name, uses, text, is_over_libraries):
     an earlier run built there of the same sources stays."""
     program, note = f'{folder}/{name}', f'{folder}/{name}.sum'
     made_of = checksum(name, uses, text, is_over_libraries)
-    if os.path.exists(program) and os.path.exists(note) and pathlib.Path(note).read_text() == made_of:
+    if (
+        os.path.exists(program)
+        and os.path.exists(note)
+        and pathlib.Path(note).read_text() == made_of
+    ):
         return program
     shutil.rmtree(f'{folder}/copy', ignore_errors=True)
     crate = f'{folder}/copy/crates/{name}'

@@ -38,7 +38,9 @@ def best_of(row):
 
 def table(columns, lines):
     """A table of Markdown; what is left out is a dash."""
-    return '\n'.join(f'| {" | ".join(map(str, line))} |' for line in [columns, ['---'] * len(columns), *lines])
+    return '\n'.join(
+        f'| {" | ".join(map(str, line))} |' for line in [columns, ['---'] * len(columns), *lines]
+    )
 
 
 def filled(text, indent=''):
@@ -65,8 +67,11 @@ class Reasons:
 
     def shown(self):
         """The reasons that were given, a line each."""
-        return '\n'.join(filled(f'- {letter}: {reason}', '  ') for letter, reason in rows.REASONS.items()
-                         if letter in self.given)
+        return '\n'.join(
+            filled(f'- {letter}: {reason}', '  ')
+            for letter, reason in rows.REASONS.items()
+            if letter in self.given
+        )
 
 
 def over_best(row, program):
@@ -86,7 +91,10 @@ def of_instructions(section, kept, through, peers, reasons):
         ratios = [over_best(row, program) for program in compared]
         ratios[0] += reasons.letters_of(name, row)
         differing = kept.rows(f'differing {section}').get(rows.search_of(name), {})
-        cells = [f'{row[peer]}{STAR * (peer in differing)}' if peer in row else '–' for peer in (*through, *peers)]
+        cells = [
+            f'{row[peer]}{STAR * (peer in differing)}' if peer in row else '–'
+            for peer in (*through, *peers)
+        ]
         lines.append([name, row.get('tz', '–'), *cells, *ratios])
     names = [name.replace('-', ' ') for name in through]
     heads = [f'{program.removeprefix("through-").replace("-", " ")} / best' for program in compared]
@@ -95,17 +103,26 @@ def of_instructions(section, kept, through, peers, reasons):
 
 def of_own(kept):
     """Instructions of the rows that no peer has."""
-    found = [(name, row) for section in ('lines', 'calls') for name, row in kept.rows(section).items()
-             if best_of(row) is None]
+    found = [
+        (name, row)
+        for section in ('lines', 'calls')
+        for name, row in kept.rows(section).items()
+        if best_of(row) is None
+    ]
     names = [name.replace('-', ' ') for name in THROUGH]
-    return table(['row', 'tz', *names],
-                 [[name, *(row.get(program, '–') for program in ('tz', *THROUGH))] for name, row in found])
+    return table(
+        ['row', 'tz', *names],
+        [[name, *(row.get(program, '–') for program in ('tz', *THROUGH))] for name, row in found],
+    )
 
 
 def above_goals(kept):
     """The calls that take more than their goals."""
-    return [f'{name} takes {row["tz"]}, more than its goal of {rows.GOALS[name]}'
-            for name, row in kept.rows('calls').items() if row.get('tz', 0) > rows.GOALS.get(name, row.get('tz', 0))]
+    return [
+        f'{name} takes {row["tz"]}, more than its goal of {rows.GOALS[name]}'
+        for name, row in kept.rows('calls').items()
+        if row.get('tz', 0) > rows.GOALS.get(name, row.get('tz', 0))
+    ]
 
 
 def multiple(figure):
@@ -154,8 +171,16 @@ ASKED = {
 def of_asked(kept):
     """Nanoseconds of the Rust crate and of the peers, in the rows that people ask for."""
     found, columns = kept.rows('times of calls'), ('through-Rust', *PEERS)
-    lines = [[asked, *(f'{found[name][program]:.0f}' if program in found[name] else '–' for program in columns)]
-             for asked, name in ASKED.items()]
+    lines = [
+        [
+            asked,
+            *(
+                f'{found[name][program]:.0f}' if program in found[name] else '–'
+                for program in columns
+            ),
+        ]
+        for asked, name in ASKED.items()
+    ]
     return table(['ns', 'tz', *PEERS], lines)
 
 
@@ -185,8 +210,10 @@ def of_builds(kept):
         'rustc': f'rustc {rustc}'.strip(),
         'cxx': f'g++ {cxx}'.strip(),
     }
-    return '\n'.join(filled(f'- {", ".join(names)}: {how.format(**compilers)}', '  ')
-                     for how, names in built.items())
+    return '\n'.join(
+        filled(f'- {", ".join(names)}: {how.format(**compilers)}', '  ')
+        for how, names in built.items()
+    )
 
 
 def of_zones(versions):
@@ -198,27 +225,44 @@ def of_zones(versions):
     if len(named) == 1:
         return f'Zones are those of tzdata {next(iter(named))}.'
     most = max(named, key=lambda version: len(named[version]))
-    few = [f'tzdata {version} for {", ".join(names[:-1])}{" and " * (len(names) > 1)}{names[-1]}' for version, names in named.items() if version != most]
+    few = [
+        f'tzdata {version} for {", ".join(names[:-1])}{" and " * (len(names) > 1)}{names[-1]}'
+        for version, names in named.items()
+        if version != most
+    ]
     return f'Zones come from {", ".join(few)}, and from tzdata {most} for the others; chrono-tz has its own.'
 
 
 def of_versions(kept):
     """What was measured, and when."""
-    version = {name: row['version'] for name, row in kept.rows('versions').items() if name != 'tzdata'}
+    version = {
+        name: row['version'] for name, row in kept.rows('versions').items() if name != 'tzdata'
+    }
     zones = of_zones(kept.rows('versions')['tzdata'])
     days = days_of(['tz'], kept) + days_of(PEERS, kept)
-    shown = 'Lines, calls and times of tz were measured on {}, {} and {}, of the others on {}, {} and {}.'.format(*days)
+    shown = 'Lines, calls and times of tz were measured on {}, {} and {}, of the others on {}, {} and {}.'.format(
+        *days
+    )
     if len(set(days)) == 1:
         shown = f'All was measured on {days[0]}.'
-    text = (f'The peers are tz-rs {version["tz-rs"]}; from Debian {version["Debian"]} glibc {version["glibc"]}, '
-            f'cctz {version["cctz"]}, Hinnant\'s date {version["date"]}, chrono-tz {version["chrono-tz"]} and Go {version["Go"]}; and the Rattle '
-            f'kit\'s port of jiff 0.2.39. {zones} {shown}')
+    text = (
+        f'The peers are tz-rs {version["tz-rs"]}; from Debian {version["Debian"]} glibc {version["glibc"]}, '
+        f'cctz {version["cctz"]}, Hinnant\'s date {version["date"]}, chrono-tz {version["chrono-tz"]} and Go {version["Go"]}; and the Rattle '
+        f'kit\'s port of jiff 0.2.39. {zones} {shown}'
+    )
     return filled(text)
 
 
 def span(kept, called):
     """The least and the greatest figure of tz over the rows of a call, and by how much the best peer takes more."""
-    found = [row for name, row in kept.rows('calls').items() if name.startswith(f'`{called}`') and name not in rows.APART and 'tz' in row and best_of(row)]
+    found = [
+        row
+        for name, row in kept.rows('calls').items()
+        if name.startswith(f'`{called}`')
+        and name not in rows.APART
+        and 'tz' in row
+        and best_of(row)
+    ]
     figures_of, ratios = [row['tz'] for row in found], [best_of(row) / row['tz'] for row in found]
     return min(figures_of), max(figures_of), f'{min(ratios):.1f}', f'{max(ratios):.1f}'
 
@@ -246,9 +290,13 @@ def of_calls(kept):
 
 def of_scaling(kept):
     """The times of more and more lines."""
-    counts, spent = zip(*((name.split()[0], str(row['tz'])) for name, row in kept.rows('scaling').items()))
-    return filled(f'Times are linear in the number of lines: {", ".join(counts)} random `T` lines '
-                  f'over Paris take {", ".join(spent)} milliseconds.')
+    counts, spent = zip(
+        *((name.split()[0], str(row['tz'])) for name, row in kept.rows('scaling').items())
+    )
+    return filled(
+        f'Times are linear in the number of lines: {", ".join(counts)} random `T` lines '
+        f'over Paris take {", ".join(spent)} milliseconds.'
+    )
 
 
 def lines_of(files):
@@ -263,28 +311,46 @@ def of_sizes():
         if not line.startswith('#'):
             name = line.split(':')[0].split()[0]
             crate = TOP / 'crates' / name
-            sizes = [lines_of(crate.glob(found)) for found in ('src/**/*.rt', 'specs/**/*.antt', 'proofs/**/*.antt')]
+            sizes = [
+                lines_of(crate.glob(found))
+                for found in ('src/**/*.rt', 'specs/**/*.antt', 'proofs/**/*.antt')
+            ]
             sizes.append(len(list(crate.glob('must-fail/*.edit'))))
-            if name.endswith(('_tests', '_samples', '_examples')) or name.startswith('tzq_') or name in ('tz_calls', 'tz_changes'):
+            if (
+                name.endswith(('_tests', '_samples', '_examples'))
+                or name.startswith('tzq_')
+                or name in ('tz_calls', 'tz_changes')
+            ):
                 tests += sizes[0]
             else:
                 shipped, count = [more + had for more, had in zip(sizes, shipped)], count + 1
     code, definitions, proofs, edits = shipped
-    return filled(f'{WORDS[count].capitalize()} crates have {code} lines of code, {definitions} of definitions and {proofs} of proofs, and {edits} '
-                  f'must-fail edits; tests, examples and programs that measure have {tests} lines.')
+    return filled(
+        f'{WORDS[count].capitalize()} crates have {code} lines of code, {definitions} of definitions and {proofs} of proofs, and {edits} '
+        f'must-fail edits; tests, examples and programs that measure have {tests} lines.'
+    )
 
 
 def picture(title, kept, section):
     """The figures of tz, tz-rs and the best peer as bars."""
     names = 'tz', 'tz-rs', 'best peer'
-    bars = [(name.replace('`', ''), (row.get('tz'), row.get('tz-rs'), best_of(row))) for name, row in kept.rows(section).items() if (row.get('tz') or LONGEST) < LONGEST]
+    bars = [
+        (name.replace('`', ''), (row.get('tz'), row.get('tz-rs'), best_of(row)))
+        for name, row in kept.rows(section).items()
+        if (row.get('tz') or LONGEST) < LONGEST
+    ]
     each = (BAR + 1) * len(names) + 8
     height = HEAD + each * len(bars) + 10
     scale = (WIDTH - LEFT - 120) / LONGEST
-    out = [f'<svg xmlns="http://www.w3.org/2000/svg" viewBox="0 0 {WIDTH} {height}" font-family="sans-serif" font-size="12">',
-           f'<rect width="{WIDTH}" height="{height}" fill="#ffffff"/>', f'<text x="12" y="20" font-size="14">{title}</text>']
+    out = [
+        f'<svg xmlns="http://www.w3.org/2000/svg" viewBox="0 0 {WIDTH} {height}" font-family="sans-serif" font-size="12">',
+        f'<rect width="{WIDTH}" height="{height}" fill="#ffffff"/>',
+        f'<text x="12" y="20" font-size="14">{title}</text>',
+    ]
     for place, (name, colour) in enumerate(zip(names, COLOURS)):
-        out.append(f'<rect x="{LEFT + 150 * place}" y="10" width="12" height="12" fill="{colour}"/><text x="{LEFT + 18 + 150 * place}" y="20">{name}</text>')
+        out.append(
+            f'<rect x="{LEFT + 150 * place}" y="10" width="12" height="12" fill="{colour}"/><text x="{LEFT + 18 + 150 * place}" y="20">{name}</text>'
+        )
     for place, (name, row) in enumerate(bars):
         top = HEAD + each * place
         out.append(f'<text x="12" y="{top + 16}">{html.escape(name)}</text>')
@@ -293,8 +359,12 @@ def picture(title, kept, section):
                 continue
             length = min(figure, LONGEST) * scale
             more = ' (cut off)' if figure > LONGEST else ''
-            out.append(f'<rect x="{LEFT}" y="{top + (BAR + 1) * within}" width="{length:.1f}" height="{BAR}" fill="{colour}"/>')
-            out.append(f'<text x="{LEFT + length + 5:.1f}" y="{top + (BAR + 1) * within + 10}" font-size="10">{figure}{more}</text>')
+            out.append(
+                f'<rect x="{LEFT}" y="{top + (BAR + 1) * within}" width="{length:.1f}" height="{BAR}" fill="{colour}"/>'
+            )
+            out.append(
+                f'<text x="{LEFT + length + 5:.1f}" y="{top + (BAR + 1) * within + 10}" font-size="10">{figure}{more}</text>'
+            )
     return '\n'.join([*out, '</svg>', ''])
 
 
@@ -318,12 +388,26 @@ def write(words=()):
     made['reasons'] = reasons.shown()
     page = PAGE.read_text()
     if list(words) == ['--all']:
-        print(*(f'## {name}\n\n{text}\n' for name, text in made.items() if f'<!-- {name} -->' not in page), sep='\n')
+        print(
+            *(
+                f'## {name}\n\n{text}\n'
+                for name, text in made.items()
+                if f'<!-- {name} -->' not in page
+            ),
+            sep='\n',
+        )
         return []
     for name, text in made.items():
-        page = re.sub(rf'(<!-- {name} -->).*?(?=\n\n|\n?\Z)', lambda found: f'{found[1]}\n{text}'.rstrip(), page, flags=re.DOTALL)
+        page = re.sub(
+            rf'(<!-- {name} -->).*?(?=\n\n|\n?\Z)',
+            lambda found: f'{found[1]}\n{text}'.rstrip(),
+            page,
+            flags=re.DOTALL,
+        )
     PAGE.write_text(page)
-    (TOP / 'docs' / 'instructions.svg').write_text(picture('Instructions for a query line', kept, 'lines'))
+    (TOP / 'docs' / 'instructions.svg').write_text(
+        picture('Instructions for a query line', kept, 'lines')
+    )
     (TOP / 'docs' / 'calls.svg').write_text(picture('Instructions for a call', kept, 'calls'))
     return reasons.missing + above_goals(kept)
 

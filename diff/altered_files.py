@@ -35,11 +35,34 @@ def tzif_files(directory):
 
 def query_lines(rng):
     """Instants and local times, most of them near transitions of the last two centuries."""
-    lines = [f"T {instant} 0" for instant in (-(2**62), -(2**40), -(2**31) - 1, -(2**31), -1, 0, 78796800, 2**31 - 1, 2**31, 2**40, 2**62)]
-    lines += [f"T {rng.randint(-4 * 10**9, 6 * 10**9)} {rng.randint(0, 999999999)}" for _ in range(30)]
+    lines = [
+        f"T {instant} 0"
+        for instant in (
+            -(2**62),
+            -(2**40),
+            -(2**31) - 1,
+            -(2**31),
+            -1,
+            0,
+            78796800,
+            2**31 - 1,
+            2**31,
+            2**40,
+            2**62,
+        )
+    ]
+    lines += [
+        f"T {rng.randint(-4 * 10**9, 6 * 10**9)} {rng.randint(0, 999999999)}" for _ in range(30)
+    ]
     for _ in range(30):
-        year, month, day = rng.randint(1880, 2060), rng.choice([3, 4, 6, 9, 10, 11, 12]), rng.randint(1, 30)
-        lines.append(f"F {year} {month} {day} {rng.choice([0, 1, 2, 2, 3, 23])} {rng.choice([0, 30, 59])} {rng.choice([0, 59, 60])} 0")
+        year, month, day = (
+            rng.randint(1880, 2060),
+            rng.choice([3, 4, 6, 9, 10, 11, 12]),
+            rng.randint(1, 30),
+        )
+        lines.append(
+            f"F {year} {month} {day} {rng.choice([0, 1, 2, 2, 3, 23])} {rng.choice([0, 30, 59])} {rng.choice([0, 59, 60])} 0"
+        )
     return lines
 
 
@@ -56,8 +79,17 @@ def grouped(lines, answers):
 
 def answer(program, path, lines):
     """The status, the answers of the lines, and the line on standard error."""
-    ran = subprocess.run([program, "-f", path], input="".join(f"{it}\n" for it in lines).encode(), capture_output=True, check=False)
-    return ran.returncode, grouped(lines, ran.stdout.decode("latin-1").split("\n")), ran.stderr.decode("latin-1").strip()
+    ran = subprocess.run(
+        [program, "-f", path],
+        input="".join(f"{it}\n" for it in lines).encode(),
+        capture_output=True,
+        check=False,
+    )
+    return (
+        ran.returncode,
+        grouped(lines, ran.stdout.decode("latin-1").split("\n")),
+        ran.stderr.decode("latin-1").strip(),
+    )
 
 
 def differences(lines, ours, theirs):
@@ -67,7 +99,11 @@ def differences(lines, ours, theirs):
         return [(kind, f"{ours[2] or 'answers'} | {theirs[2] or 'answers'}")]
     if ours[0] != 0:
         return [] if ours[2] == theirs[2] else [("named", f"{ours[2]} | {theirs[2]}")]
-    return [(line[0], f"{line}: {mine} | {other}") for line, mine, other in zip(lines, ours[1], theirs[1]) if mine != other]
+    return [
+        (line[0], f"{line}: {mine} | {other}")
+        for line, mine, other in zip(lines, ours[1], theirs[1])
+        if mine != other
+    ]
 
 
 def alterations(rng, content, cuts, changes):
@@ -88,9 +124,13 @@ def main():
     ask.add_argument("--directory", default="/usr/share/zoneinfo")
     ask.add_argument("--cuts", type=int, default=40)
     ask.add_argument("--changes", type=int, default=40)
-    ask.add_argument("--files", type=int, default=0, help="how many files, chosen at random; 0 for all")
+    ask.add_argument(
+        "--files", type=int, default=0, help="how many files, chosen at random; 0 for all"
+    )
     ask.add_argument("--seed", type=int, default=1)
-    ask.add_argument("--show", type=int, default=5, help="how many differences of each kind are shown")
+    ask.add_argument(
+        "--show", type=int, default=5, help="how many differences of each kind are shown"
+    )
     given = ask.parse_args()
     rng = random.Random(given.seed)
     files = tzif_files(given.directory)

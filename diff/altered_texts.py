@@ -31,7 +31,12 @@ BYTES = b"0123456789+-:,./<>JMx \0\n\xff"
 
 def file_of(version, text):
     """A file with one type, no transitions, and the text in its footer."""
-    header = b"TZif" + version + bytes(15) + b"".join(count.to_bytes(4, "big") for count in (0, 0, 0, 0, 1, 4))
+    header = (
+        b"TZif"
+        + version
+        + bytes(15)
+        + b"".join(count.to_bytes(4, "big") for count in (0, 0, 0, 0, 1, 4))
+    )
     unit = header + bytes(6) + b"UTC\0"
     return unit + unit + b"\n" + text + b"\n"
 
@@ -50,7 +55,9 @@ def main():
     ask = argparse.ArgumentParser(description="Compares two programs over altered TZ strings.")
     ask.add_argument("--tzq", required=True)
     ask.add_argument("--other", required=True)
-    ask.add_argument("--show", type=int, default=5, help="how many differences of each kind are shown")
+    ask.add_argument(
+        "--show", type=int, default=5, help="how many differences of each kind are shown"
+    )
     given = ask.parse_args()
     lines = query_lines(random.Random(1))
     tried, answered, differing, seen = 0, 0, 0, collections.Counter()

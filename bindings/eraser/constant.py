@@ -61,7 +61,12 @@ def with_casts(path, text):
     while True:
         tokens = tokens_of(path, text)
         for at in range(len(tokens) - 4):
-            if tokens[at].text in INTEGERS and tokens[at + 1].text == "::" and tokens[at + 2].text == "from" and tokens[at + 3].text == "(":
+            if (
+                tokens[at].text in INTEGERS
+                and tokens[at + 1].text == "::"
+                and tokens[at + 2].text == "from"
+                and tokens[at + 3].text == "("
+            ):
                 break
         else:
             return text
@@ -101,7 +106,11 @@ def chain_start(tokens, at):
                 continue
             if tokens[at - 1].text == ">":
                 raise Stop("types in a call")
-            if tokens[at - 1].kind == "word" and tokens[at - 1].text not in KEYWORDS or tokens[at - 1].text in OPEN.values():
+            if (
+                tokens[at - 1].kind == "word"
+                and tokens[at - 1].text not in KEYWORDS
+                or tokens[at - 1].text in OPEN.values()
+            ):
                 continue
             return at
         if tokens[at - 1].text not in (".", "::"):
@@ -109,7 +118,21 @@ def chain_start(tokens, at):
         at -= 1
 
 
-KEYWORDS = {"as", "break", "else", "if", "in", "let", "loop", "match", "move", "mut", "return", "unsafe", "while"}
+KEYWORDS = {
+    "as",
+    "break",
+    "else",
+    "if",
+    "in",
+    "let",
+    "loop",
+    "match",
+    "move",
+    "mut",
+    "return",
+    "unsafe",
+    "while",
+}
 
 
 def with_returns(path, text):
@@ -135,7 +158,11 @@ def with_comparisons(path, text):
     while True:
         tokens = tokens_of(path, text)
         for at in range(len(tokens) - 2):
-            if tokens[at].text == "." and tokens[at + 1].text in ("min", "max") and tokens[at + 2].text == "(":
+            if (
+                tokens[at].text == "."
+                and tokens[at + 1].text in ("min", "max")
+                and tokens[at + 2].text == "("
+            ):
                 break
         else:
             return text
@@ -153,7 +180,11 @@ def with_slices(path, text):
     while True:
         tokens = tokens_of(path, text)
         for at, token in enumerate(tokens):
-            if token.text != "[" or at == 0 or not (tokens[at - 1].kind == "word" or tokens[at - 1].text in OPEN.values()):
+            if (
+                token.text != "["
+                or at == 0
+                or not (tokens[at - 1].kind == "word" or tokens[at - 1].text in OPEN.values())
+            ):
                 continue
             end = closing(path, tokens, at)
             depth, dots = 0, None
@@ -177,7 +208,10 @@ def with_slices(path, text):
 NO_LOOP = (
     (r"\bcontinue\b", "a loop that continues"),
     (r"\bINDEX_end\b", "a loop that has the name of its bound"),
-    (r"\b(?:let|for)\b[^=;{}]*\bINDEX\b|\bINDEX\s*(?:[-+*/%&|^]|<<|>>)?=(?!=)|&mut INDEX\b", "a loop that binds or sets its index"),
+    (
+        r"\b(?:let|for)\b[^=;{}]*\bINDEX\b|\bINDEX\s*(?:[-+*/%&|^]|<<|>>)?=(?!=)|&mut INDEX\b",
+        "a loop that binds or sets its index",
+    ),
 )
 FOR = re.compile(r"\bfor (\w+) in ([^{};]+?)\.\.([^{};=]+?) \{")
 

@@ -16,7 +16,18 @@ NOT_COUNTED = (
     (re.compile(r"(?:--|//)[^\n]*[(){}\"]"), "a bracket or a quote in a comment"),
     (re.compile(r"'\\?[(){}\"]'|/\*|\{-"), "a bracket in a character or a comment"),
 )
-GHOST_WORDS = {"ghost", "requires", "ensures", "follows", "prove", "tactic", "decreases", "invariant", "axiom", "lemma"}
+GHOST_WORDS = {
+    "ghost",
+    "requires",
+    "ensures",
+    "follows",
+    "prove",
+    "tactic",
+    "decreases",
+    "invariant",
+    "axiom",
+    "lemma",
+}
 
 
 def is_within(path, text, start, end):
@@ -25,7 +36,9 @@ def is_within(path, text, start, end):
     indent = len(lines[0]) - len(lines[0].lstrip())
     for number, line in enumerate(lines):
         if line.strip() and len(line) - len(line.lstrip()) < indent:
-            raise Stop(f"{path}:{line_of(text, start) + number}: ghost code that goes on further to the left")
+            raise Stop(
+                f"{path}:{line_of(text, start) + number}: ghost code that goes on further to the left"
+            )
 
 
 def group_end(path, text, at, opening, closing):
@@ -72,14 +85,18 @@ def ghost_end(path, text, start, at):
                 return place + 1
     item = GHOST_ITEM.match(text, at)
     if not item:
-        raise Stop(f"{path}:{line_of(text, start)}: a ghost form that is not known: {text[start : start + 40]!r}")
+        raise Stop(
+            f"{path}:{line_of(text, start)}: a ghost form that is not known: {text[start : start + 40]!r}"
+        )
     end = group_end(path, text, item.end(), "{", "}")
     word = re.compile(r"\s*by\s*(?=\{)").match(text, end)
     if word:
         end = group_end(path, text, word.end(), "{", "}")
     end = next_place(text, end)
     if text[end : end + 1] not in (",", ";"):
-        raise Stop(f"{path}:{line_of(text, start)}: a ghost item that does not end: {text[start : start + 40]!r}")
+        raise Stop(
+            f"{path}:{line_of(text, start)}: a ghost item that does not end: {text[start : start + 40]!r}"
+        )
     return end + 1
 
 
@@ -122,7 +139,9 @@ def without_ghosts(path, text, lines=False):
                     start = before.start
                 start = start_of_docs(text, start)
             elif token.text in GHOST_WORDS and token.kind == "word":
-                raise Stop(f"{path}:{line_of(text, at)}: a ghost word in a form that is not known: {token.text}")
+                raise Stop(
+                    f"{path}:{line_of(text, at)}: a ghost word in a form that is not known: {token.text}"
+                )
             if end is None:
                 at = token.end
                 if token.kind != "comment":
@@ -131,7 +150,11 @@ def without_ghosts(path, text, lines=False):
         # A line on which nothing else stands goes whole, so that docs stay beside their item.
         line = text.rfind("\n", 0, start) + 1
         newline = text.find("\n", end)
-        if not text[line:start].strip() and not text[end : max(newline, end)].strip() and line >= kept:
+        if (
+            not text[line:start].strip()
+            and not text[end : max(newline, end)].strip()
+            and line >= kept
+        ):
             start, end = line, max(newline + 1, end)
         pieces += [text[kept:start], "\n" * text.count("\n", start, end) if lines else ""]
         kept = at = end

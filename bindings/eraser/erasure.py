@@ -109,8 +109,14 @@ PACKAGES = (
 # Exact texts that are replaced before anything else.
 EXACT = {
     "crates/tz/src/datetime/utc_date_time.rt": (
-        ("self.checked_add(duration).unwrap()", 'self.checked_add(duration).expect("attempt to add with overflow")'),
-        ("self.checked_sub(duration).unwrap()", 'self.checked_sub(duration).expect("attempt to subtract with overflow")'),
+        (
+            "self.checked_add(duration).unwrap()",
+            'self.checked_add(duration).expect("attempt to add with overflow")',
+        ),
+        (
+            "self.checked_sub(duration).unwrap()",
+            'self.checked_sub(duration).expect("attempt to subtract with overflow")',
+        ),
         # Where Rattle requires a proof, Rust panics.
         (
             "/// The date time later by a duration. Rattle requires a proof that it is not past\n/// [`UtcDateTime::MAX`]; the Rust crate panics if it is. "
@@ -132,7 +138,9 @@ EXACT = {
         ),
     ),
     # The list of the layer by hand lends its entries.
-    "crates/tz/src/datetime/found.rt": (("    pub(super) found: Vec<", "    pub(crate) found: Vec<"),),
+    "crates/tz/src/datetime/found.rt": (
+        ("    pub(super) found: Vec<", "    pub(crate) found: Vec<"),
+    ),
     # These docs stand apart from their function.
     "crates/tz_format/src/print.rt": (
         ("/// Appends what a pattern prints.\n\n", "/// Appends what a pattern prints.\n"),
@@ -186,7 +194,10 @@ SKIPPED = {"crates/tz/src/datetime/utc_date_time.rt": ("unix_time:",)}
 
 # Functions that are methods of another crate's type in Rust (methods.py).
 METHODS = {
-    "crates/tz_civil/src/date.rt": {"Date::of": "UtcDateTime::date", "Date::of_date_time": "DateTime::date"},
+    "crates/tz_civil/src/date.rt": {
+        "Date::of": "UtcDateTime::date",
+        "Date::of_date_time": "DateTime::date",
+    },
     "crates/tz_civil/src/day_starts.rt": {"start_of_day": "TimeZoneRef::start_of_day"},
 }
 
@@ -202,11 +213,15 @@ ALLOWED = {
     "crates/tz/src/datetime/find.rt": {"Refused": ("dead_code",)},
     "crates/tz_zone/src/timezone/zone_data.rt": {"RuleSource": ("dead_code",)},
     "crates/tz/src/parse.rt": {"read_printed": ("clippy::manual_range_contains",)},
-    "crates/tz/src/text_buffer.rt": {"TextBuffer::push_decimal": ("clippy::manual_range_contains",)},
+    "crates/tz/src/text_buffer.rt": {
+        "TextBuffer::push_decimal": ("clippy::manual_range_contains",)
+    },
     "crates/tz_base/src/calendar.rt": {"days_before_moved_year": ("clippy::manual_div_ceil",)},
     "crates/tz_format/src/lenient.rt": {"is_name_byte": ("clippy::manual_range_contains",)},
     "crates/tz_zone/src/parse/tz_string.rt": {"read_daylight": ("clippy::type_complexity",)},
-    "crates/tz_c/src/zones.rt": {"index_in": ("clippy::manual_find", "clippy::needless_range_loop")},
+    "crates/tz_c/src/zones.rt": {
+        "index_in": ("clippy::manual_find", "clippy::needless_range_loop")
+    },
     "crates/tz_query/src/query/output.rt": {"Page::push_year": ("clippy::manual_range_contains",)},
     "crates/tz_query/src/query/read_query.rt": {
         "read_numbers": ("clippy::needless_range_loop",),
@@ -218,7 +233,10 @@ ALLOWED = {
 EXHAUSTIVE = {"ReadFault", "RunFault"}
 
 # What examples of docs import, hidden.
-EXAMPLE_IMPORTS = ("# use std::time::Duration;", "# use tz::{datetime::*, error::*, timezone::*, *};")
+EXAMPLE_IMPORTS = (
+    "# use std::time::Duration;",
+    "# use tz::{datetime::*, error::*, timezone::*, *};",
+)
 
 # Examples have no allocator in Rust, and no error of one.
 EXAMPLE_FORMS = (
@@ -240,7 +258,17 @@ OTHER_EXAMPLES = {
 
 def sources_named():
     """The sources that these tables name."""
-    tables = (EXACT, LEFT_OUT, SKIPPED, METHODS, OPEN_FIELDS, ALLOWED, CONST, INNER, dict.fromkeys(OTHER_EXAMPLES))
+    tables = (
+        EXACT,
+        LEFT_OUT,
+        SKIPPED,
+        METHODS,
+        OPEN_FIELDS,
+        ALLOWED,
+        CONST,
+        INNER,
+        dict.fromkeys(OTHER_EXAMPLES),
+    )
     return sorted({path for table in tables for path in table if path.startswith("crates/")})
 
 

@@ -26,9 +26,7 @@ EXPORT = re.compile(r'#\[unsafe\(no_mangle\)\]\s*pub extern "C" fn (\w+)(?=\()')
 # What a struct of slices is in C.
 MIRRORS = {"ZoneData": "Zone", "PartsData": "Parts"}
 NUMBER = r"(?:bool|[iu](?:8|16|32|64)|usize)"
-PARAMETER = re.compile(
-    r"(?P<reference>&(?P<mut>mut )?)?(?P<list>\[)?(?P<type>\w+)(?:<'_>)?\]?"
-)
+PARAMETER = re.compile(r"(?P<reference>&(?P<mut>mut )?)?(?P<list>\[)?(?P<type>\w+)(?:<'_>)?\]?")
 HEAD = """//! The functions of tz.h, each by one pattern: from what C passes it makes what the function of a
 //! source takes, and calls that.
 #![allow(unsafe_code)]
@@ -167,7 +165,11 @@ def exported(sources):
             used.add(module)
             docs = items[name].partition("#[")[0]
             functions.append(function(path, module, docs, name, given, answer, paths, used))
-    mirrors = [mirror(path, module, text, name, used) for path, module, text in sources for name in erasure.OPEN_FIELDS.get(path, ())]
+    mirrors = [
+        mirror(path, module, text, name, used)
+        for path, module, text in sources
+        for name in erasure.OPEN_FIELDS.get(path, ())
+    ]
     return HEAD + uses(used) + "".join(mirrors + functions)
 
 

@@ -17,7 +17,10 @@ VARIANTS = {"crates/tz_base/src/error.rt": {"Error::Io": "alloc"}}
 # Exports of what needs no feature, for code by hand that needs one.
 EXPORTS = {
     "crates/tz/src/lib.rt": {"TimeZoneSettings": "alloc"},
-    "crates/tz_zone/src/timezone/mod.rt": {"DEFAULT_DIRECTORIES": "std", "TimeZoneSettings": "alloc"},
+    "crates/tz_zone/src/timezone/mod.rt": {
+        "DEFAULT_DIRECTORIES": "std",
+        "TimeZoneSettings": "alloc",
+    },
 }
 
 
@@ -40,7 +43,10 @@ class Source:
         self.of_item = {}
 
     def is_member(self, item):
-        return any(it[0] in ("impl", "trait", "mod") and it[2] < item[2] and item[5] < it[5] for it in self.items)
+        return any(
+            it[0] in ("impl", "trait", "mod") and it[2] < item[2] and item[5] < it[5]
+            for it in self.items
+        )
 
     def need(self, start, end, names):
         """The feature that a run of tokens needs: the greater one of the names that it has."""
@@ -63,7 +69,9 @@ def is_variant(source, item):
 
 def imported(source, item):
     """What an import begins with, and its parts, each with the name that it brings."""
-    return parts_of_import(source.path, source.text[source.tokens[item[3]].start : source.tokens[item[5]].end])
+    return parts_of_import(
+        source.path, source.text[source.tokens[item[3]].start : source.tokens[item[5]].end]
+    )
 
 
 def spread(sources):
@@ -96,7 +104,11 @@ def without_variants(source, item, names):
     if item[0] != "enum":
         return names
     words = source.tokens[item[4] + 1 : item[5]]
-    variants = {it.text for at, it in enumerate(words) if it.kind == "word" and (at == 0 or words[at - 1].text in (",", "]", ")"))}
+    variants = {
+        it.text
+        for at, it in enumerate(words)
+        if it.kind == "word" and (at == 0 or words[at - 1].text in (",", "]", ")"))
+    }
     return {name: feature for name, feature in names.items() if name not in variants}
 
 
@@ -121,7 +133,9 @@ class Inner:
 
     def stop_at_rest(self):
         if self.left:
-            raise Stop(f"{self.path}: there is no {min(self.left)}: bindings/erase --inner writes bindings/eraser/inner.txt anew")
+            raise Stop(
+                f"{self.path}: there is no {min(self.left)}: bindings/erase --inner writes bindings/eraser/inner.txt anew"
+            )
 
 
 def without_implied(needs, outer):
@@ -157,7 +171,11 @@ def import_by_features(source, item, everywhere, inner):
     if list(made) == [()]:
         return None
     order = ((), ("alloc",), ("std",), ("inner",), ("alloc", "inner"), ("std", "inner"))
-    return "\n".join(f"{attribute(*needs)}{head}{{{', '.join(made[needs])}}};" for needs in order if needs in made)
+    return "\n".join(
+        f"{attribute(*needs)}{head}{{{', '.join(made[needs])}}};"
+        for needs in order
+        if needs in made
+    )
 
 
 def with_features(sources):
@@ -178,7 +196,9 @@ def with_features(sources):
                 if made:
                     edits.append((source.tokens[head].start, source.tokens[last].end, made))
                 continue
-            needs = list(filter(None, (source.of_item.get(item), inner.has_item(kind, name) and "inner")))
+            needs = list(
+                filter(None, (source.of_item.get(item), inner.has_item(kind, name) and "inner"))
+            )
             needs = without_implied(needs, outer)
             if needs:
                 outside.append((last, needs))

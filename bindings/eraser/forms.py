@@ -14,7 +14,19 @@ from .tokens import OPEN, Stop, closing, edited, found_again, hidden, line_of, t
 
 # Those of the shim are the eraser's own.
 KNOWN_MACROS = {"anyhow", "matches", "write", "writeln", "unreachable", "format", "vec"}
-KNOWN_ATTRIBUTES = {"derive", "derive_where", "error", "inline", "cold", "repr", "unsafe", "doc", "allow", "non_exhaustive", "default"}
+KNOWN_ATTRIBUTES = {
+    "derive",
+    "derive_where",
+    "error",
+    "inline",
+    "cold",
+    "repr",
+    "unsafe",
+    "doc",
+    "allow",
+    "non_exhaustive",
+    "default",
+}
 
 
 def erased(package, path, text):
@@ -60,17 +72,25 @@ def known(path, text):
             raise Stop(f"{path}:{line_of(text, token.start)}: a letter that is not ASCII")
         if token.kind == "word" and tokens[at + 1].text == "!" and tokens[at + 2].text in OPEN:
             if token.text not in KNOWN_MACROS:
-                raise Stop(f"{path}:{line_of(text, token.start)}: a macro that is not known: {token.text}!")
+                raise Stop(
+                    f"{path}:{line_of(text, token.start)}: a macro that is not known: {token.text}!"
+                )
         if token.text == "#":
             name = at + 1 + (tokens[at + 1].text == "!") + 1
             if tokens[name].text not in KNOWN_ATTRIBUTES:
-                raise Stop(f"{path}:{line_of(text, token.start)}: an attribute that is not known: {tokens[name].text}")
+                raise Stop(
+                    f"{path}:{line_of(text, token.start)}: an attribute that is not known: {tokens[name].text}"
+                )
 
 
 def stops_at_floats(path, text, tokens):
     """The lesser of two floats is another one in Rust."""
     for token in tokens:
-        if token.kind == "number" and re.search(r"^(?!0x).*(?:\.|f32|f64|[0-9]e)", token.text) or token.text in ("f32", "f64"):
+        if (
+            token.kind == "number"
+            and re.search(r"^(?!0x).*(?:\.|f32|f64|[0-9]e)", token.text)
+            or token.text in ("f32", "f64")
+        ):
             raise Stop(f"{path}:{line_of(text, token.start)}: a float")
 
 
@@ -86,7 +106,12 @@ def stops_at_ranges(path, text, tokens):
             continue
         last, following = tokens[at - 1], tokens[at + 1]
         is_pattern = tokens[at - 2].text in ("@", "|") or following.text in ("=>", "|")
-        if ends_operand(last) and not following.text == "]" and not is_pattern and (following.text in OPEN.values() or following.text in ("{", ";", ",", ".")):
+        if (
+            ends_operand(last)
+            and not following.text == "]"
+            and not is_pattern
+            and (following.text in OPEN.values() or following.text in ("{", ";", ",", "."))
+        ):
             raise Stop(f"{path}:{line_of(text, token.start)}: a range without an end")
         if inside[-1:] == ["{"] and last.text in (",", "{") and following.text != "}":
             for part in tokens[at + 1 :]:
@@ -112,7 +137,9 @@ def stops_at_sizes(path, text, tokens):
         if tokens[at + 1].text != "::" or rest not in (">", "<'static>>", "<'_>>", "<'a>>"):
             raise Stop(f"{path}:{line_of(text, token.start)}: the size of what is not known")
         if name.text not in NUMBERS and not is_laid_out(path, text, name.text):
-            raise Stop(f"{path}:{line_of(text, token.start)}: the size of {name.text}, which is not repr(C)")
+            raise Stop(
+                f"{path}:{line_of(text, token.start)}: the size of {name.text}, which is not repr(C)"
+            )
 
 
 STRUCT = re.compile(r"^((?:#\[.*\]\n)*)(?:pub(?:\(\w+\))? )?(?:struct|enum) (\w+)", re.M)
@@ -140,7 +167,11 @@ def is_laid_out(path, text, name):
     imported = re.search(rf"^use (\w+)::[^;]*\b{name}\b[^;]*;", text, re.M)
     crate = imported and {"crate": own, "super": own}.get(imported[1], imported[1])
     crates = sorted({it for package in erasure.PACKAGES for it in package.crates})
-    for found in (layouts_of(text), layouts(crate) if crate else [], [it for other in crates for it in layouts(other)]):
+    for found in (
+        layouts_of(text),
+        layouts(crate) if crate else [],
+        [it for other in crates for it in layouts(other)],
+    ):
         found = [laid_out for other, laid_out in found if other == name]
         if found:
             return all(found)
@@ -151,8 +182,14 @@ def stops_at_orders(path, text):
     """Rust orders the variants of an enum by their numbers."""
     for item in items_of(path, text):
         code = text[item.start : item.end]
-        if item.kind == "enum" and re.search(r"derive(_where)?\([^)]*\b(Partial)?Ord\b", code) and re.search(r"^\s*\w+ = ", code, re.M):
-            raise Stop(f"{path}:{line_of(text, item.start)}: an order of an enum with numbers: {item.name}")
+        if (
+            item.kind == "enum"
+            and re.search(r"derive(_where)?\([^)]*\b(Partial)?Ord\b", code)
+            and re.search(r"^\s*\w+ = ", code, re.M)
+        ):
+            raise Stop(
+                f"{path}:{line_of(text, item.start)}: an order of an enum with numbers: {item.name}"
+            )
 
 
 def left_out(path, text):
@@ -209,7 +246,9 @@ def with_errors(path, text, texts):
     text = text.replace("use thiserror::Error;\n", "")
     made = []
     for item, body in [(it, text[it.start : it.end]) for it in items_of(path, text)]:
-        if item.kind not in ("enum", "struct") or not re.search(r"derive\([^)]*\bError\b[^)]*\)", body):
+        if item.kind not in ("enum", "struct") or not re.search(
+            r"derive\([^)]*\bError\b[^)]*\)", body
+        ):
             continue
         name = item.name
         if item.kind == "struct":
@@ -293,7 +332,12 @@ def with_must_use(path, text):
     for function in functions_of(path, text):
         head = text[function.head : function.body]
         result = head.rpartition("->")[2].partition("where")[0].split()
-        if "->" not in head or not head.startswith("pub ") or "&mut " in head or result[0].startswith(("Result<", "(Result<", "fmt::Result")):
+        if (
+            "->" not in head
+            or not head.startswith("pub ")
+            or "&mut " in head
+            or result[0].startswith(("Result<", "(Result<", "fmt::Result"))
+        ):
             continue
         edits.append((function.head, function.head, "#[must_use]\n"))
     return edited(text, edits)
@@ -340,14 +384,24 @@ def with_paths(package, path, text):
             if new:
                 edits.append((token.start, token.end, new))
             elif in_use and before == "{" and token.text in package.modules:
-                raise Stop(f"{path}:{line_of(text, token.start)}: an import in a form that is not known")
+                raise Stop(
+                    f"{path}:{line_of(text, token.start)}: an import in a form that is not known"
+                )
     text = edited(text, edits)
     for pattern, new in package.std_paths:
         text = re.sub(pattern, new, text, flags=re.M)
-    left = re.search(r"^(?:pub )?use std::[^;]*;|[^:\w]std::\w+", "\n".join(it for it in text.split("\n") if not it.lstrip().startswith("//")), re.M)
+    left = re.search(
+        r"^(?:pub )?use std::[^;]*;|[^:\w]std::\w+",
+        "\n".join(it for it in text.split("\n") if not it.lstrip().startswith("//")),
+        re.M,
+    )
     if left:
         raise Stop(f"{path}: a path of std that is not known: {left[0]}")
-    names = [name for name in ("Vec", "String") if re.search(rf"(?<![\w:]){name}\b(?=[:<(]|\s*\{{)", without_comments(text))]
+    names = [
+        name
+        for name in ("Vec", "String")
+        if re.search(rf"(?<![\w:]){name}\b(?=[:<(]|\s*\{{)", without_comments(text))
+    ]
     if names:
         use = f"use crate::shim::{{{', '.join(names)}}};\n"
         at = re.search(r"^(?!//!|\n)", text, re.M).start()

@@ -57,7 +57,11 @@ def parameters_of(path, tokens):
     made, depth = [], 0
     for number in range(at + 1, closing(path, tokens, at)):
         text = tokens[number].text
-        if depth == 0 and tokens[number + 1].text == ":" and tokens[number - 1].text in ("(", ",", "mut"):
+        if (
+            depth == 0
+            and tokens[number + 1].text == ":"
+            and tokens[number - 1].text in ("(", ",", "mut")
+        ):
             made.append(tokens[number])
         elif depth == 0 and text == "self":
             made.append(tokens[number])
@@ -68,7 +72,10 @@ def parameters_of(path, tokens):
 def is_read(name, tokens):
     """Whether a body reads a name, or a text in it does."""
     text_reads = re.compile(rf"\{{{name}\b")
-    return any(it.text == name if it.kind == "word" else it.kind == "string" and text_reads.search(it.text) for it in tokens)
+    return any(
+        it.text == name if it.kind == "word" else it.kind == "string" and text_reads.search(it.text)
+        for it in tokens
+    )
 
 
 def with_unread_parameters(path, text):
@@ -110,7 +117,9 @@ def errors_of_crate():
         for where, _, names in os.walk(f"{erasure.TOP}/crates/{crate}/src"):
             for name in names:
                 with open(f"{where}/{name}", encoding="utf-8") as file:
-                    made.update(re.findall(r"derive\([^)]*\bError\b[^)]*\)\]\npub enum (\w+)", file.read()))
+                    made.update(
+                        re.findall(r"derive\([^)]*\bError\b[^)]*\)\]\npub enum (\w+)", file.read())
+                    )
     return made - erasure.EXHAUSTIVE
 
 
@@ -147,7 +156,11 @@ def takes_all_after(front, pattern):
     if [it.text for it in pattern[: len(front)]] != front or any(it.text == "if" for it in pattern):
         return False
     rest = pattern[len(front) :]
-    return rest[0].kind == "word" and not rest[0].text[0].isupper() and (len(rest) == 1 or rest[1].text != "::")
+    return (
+        rest[0].kind == "word"
+        and not rest[0].text[0].isupper()
+        and (len(rest) == 1 or rest[1].text != "::")
+    )
 
 
 def with_arms_for_more(path, text):
@@ -158,10 +171,17 @@ def with_arms_for_more(path, text):
             continue
         opening = at + 1
         while tokens[opening].text != "{":
-            opening = closing(path, tokens, opening) + 1 if tokens[opening].text in OPEN else opening + 1
+            opening = (
+                closing(path, tokens, opening) + 1 if tokens[opening].text in OPEN else opening + 1
+            )
         patterns = [tokens[start:end] for start, end in arms_of(path, tokens, opening)]
         fronts = [it for it in map(before_error, patterns) if it is not None]
-        if fronts and not any(takes_all_after(front[:length], it) for front in fronts for length in (0, len(front)) for it in patterns):
+        if fronts and not any(
+            takes_all_after(front[:length], it)
+            for front in fronts
+            for length in (0, len(front))
+            for it in patterns
+        ):
             end = tokens[closing(path, tokens, opening)].start
             edits.append((end, end, "_ => unreachable!(),\n"))
     return edited(text, edits)

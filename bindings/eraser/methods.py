@@ -18,7 +18,10 @@ from . import erasure
 from .structure import functions_of
 from .tokens import Stop, edited, line_of, tokens_of
 
-SIGNATURE = re.compile(r"pub (?P<words>(?:const )?)fn \w+(?P<generics><[^>(]*>)?\((?P<given>.*?)\)(?P<result>\s*->.*)?\s*", re.S)
+SIGNATURE = re.compile(
+    r"pub (?P<words>(?:const )?)fn \w+(?P<generics><[^>(]*>)?\((?P<given>.*?)\)(?P<result>\s*->.*)?\s*",
+    re.S,
+)
 PARAMETER = re.compile(r"(?:mut )?([a-z_]\w*): (.*)", re.S)
 LENT = re.compile(r"(?P<lent>&(?:'\w+ )?(?:mut )?)?(?P<type>.*)", re.S)
 
@@ -54,7 +57,9 @@ def method_of(function, method, docs, signature):
         lifetimes = [it for it in re.findall(r"'\w+", whole) if it != "'_"]
         if lifetimes:
             before = f"<{', '.join(lifetimes)}>"
-            left = [it.strip() for it in generics.strip("<>").split(",") if it.strip() not in lifetimes]
+            left = [
+                it.strip() for it in generics.strip("<>").split(",") if it.strip() not in lifetimes
+            ]
             generics = f"<{', '.join(left)}>" if left else ""
     call = f"self::{function}" if function in names else function
     return (
@@ -73,7 +78,9 @@ def with_methods(path, text):
         docs = text[function.start : function.head]
         impl = method_of(function.name, method, docs, text[function.head : function.body])
         if impl is None:
-            raise Stop(f"{path}:{line_of(text, function.head)}: a method in a form that is not known: {function.name}")
+            raise Stop(
+                f"{path}:{line_of(text, function.head)}: a method in a form that is not known: {function.name}"
+            )
         made.append(impl)
         attributes = re.sub(r"^\s*//.*\n", "", docs, flags=re.M)
         if "::" in function.name:
@@ -90,5 +97,7 @@ def called_as_method(line):
         for function, method in functions.items():
             owner, name = method.split("::")
             value = r"&?(?P<value>\w+(?:\.\w+(?:\(\))?)*)(?:, |(?=\)))"
-            line = re.sub(rf"(?<![\w.:]){re.escape(function)}\({value}", rf"\g<value>.{name}(", line)
+            line = re.sub(
+                rf"(?<![\w.:]){re.escape(function)}\({value}", rf"\g<value>.{name}(", line
+            )
     return line

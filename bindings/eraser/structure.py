@@ -64,11 +64,17 @@ def walk(path, text, tokens, at, end, owner, found):
             at += 1
             if tokens[at].text == "(":
                 at = closing(path, tokens, at) + 1
-        while tokens[at].text in ("unsafe", "extern", "async") or tokens[at].kind == "string" or (tokens[at].text == "const" and tokens[at + 1].text in ("fn", "extern", "unsafe")):
+        while (
+            tokens[at].text in ("unsafe", "extern", "async")
+            or tokens[at].kind == "string"
+            or (tokens[at].text == "const" and tokens[at + 1].text in ("fn", "extern", "unsafe"))
+        ):
             at += 1
         kind = tokens[at].text
         if kind not in ITEMS:
-            raise Stop(f"{path}: an item in a form that is not known: {text[tokens[start].start : tokens[start].start + 60]!r}")
+            raise Stop(
+                f"{path}: an item in a form that is not known: {text[tokens[start].start : tokens[start].start + 60]!r}"
+            )
         body = None
         last = at
         while True:
@@ -116,7 +122,10 @@ def parts_of_import(path, text):
         head, _, parts = text.rstrip().rstrip(";").rpartition("::")
         head += "::" if _ else ""
     parts = [it.strip() for it in parts.rstrip("} \n").split(",") if it.strip()]
-    return head, [(it, head.rstrip(":").rpartition("::")[2] if it == "self" else it.split(" as ")[-1].strip()) for it in parts]
+    return head, [
+        (it, head.rstrip(":").rpartition("::")[2] if it == "self" else it.split(" as ")[-1].strip())
+        for it in parts
+    ]
 
 
 def all_items(path, text):
@@ -129,7 +138,10 @@ def all_items(path, text):
 def items_of(path, text):
     """Each item, with its docs."""
     tokens, found = all_items(path, text)
-    return [Item(kind, name, start_of_docs(text, tokens[start].start), tokens[last].end) for kind, name, start, _, _, last in found]
+    return [
+        Item(kind, name, start_of_docs(text, tokens[start].start), tokens[last].end)
+        for kind, name, start, _, _, last in found
+    ]
 
 
 def functions_of(path, text):
@@ -139,5 +151,7 @@ def functions_of(path, text):
     for kind, name, start, head, body, last in found:
         if kind == "fn":
             inner = (tokens[body].start, tokens[last].end) if body else (0, 0)
-            made.append(Function(name, start_of_docs(text, tokens[start].start), tokens[head].start, *inner))
+            made.append(
+                Function(name, start_of_docs(text, tokens[start].start), tokens[head].start, *inner)
+            )
     return made

@@ -66,7 +66,10 @@ class Stops(unittest.TestCase):
             ("for i in 0..2 { if i == 0 { continue; } }", "a loop that continues: for i in 0..2 {"),
             ("&a[1..3]", "a piece of a slice"),
             # The index that the body binds again would be the one that is counted on.
-            ("for i in 0..3 { let mut i = i; i += 1; }", "a loop that binds or sets its index: for i in 0..3 {"),
+            (
+                "for i in 0..3 { let mut i = i; i += 1; }",
+                "a loop that binds or sets its index: for i in 0..3 {",
+            ),
             ("for i in 0..3 { if let Some(i) = two { } }", "a loop that binds or sets its index"),
             ("for i in 0..3 { for i in 0..2 { } }", "a loop that binds or sets its index"),
             ("for i in 0..3 { two(&mut i); }", "a loop that binds or sets its index"),
@@ -80,13 +83,37 @@ class Stops(unittest.TestCase):
     def test_what_brackets_mean_in_ghost_code(self):
         # The head of the second function would be cut.
         one = "fn one() -> u8\n    ensures { result \u2261 1 -- {\n    }\n{\n    1\n}\n\n"
-        self.stops(one + "fn two() -> u8\n    ensures { result \u2261 2 -- }\n    }\n{\n    2\n}\n", 2, "in a comment of ghost code")
-        self.stops('fn one() -> u8\n    ensures { result \u2261 1 -- "\n    }\n{\n    1\n}\n', 2, "in a comment of ghost code")
-        self.stops("fn one() -> u8\n    ensures { result \u2261 1 // {\n    }\n{\n    1 }\n}\n", 2, "in a comment of ghost code")
-        self.stops("fn one() -> u8\n    ensures { result \u2261 '{' }\n{\n    1\n}\n}\n", 2, "in a character")
-        self.stops("fn one() -> u8\n    ensures { result /* { */ }\n{\n    1\n}\n}\n", 2, "in a character or a comment")
+        self.stops(
+            one + "fn two() -> u8\n    ensures { result \u2261 2 -- }\n    }\n{\n    2\n}\n",
+            2,
+            "in a comment of ghost code",
+        )
+        self.stops(
+            'fn one() -> u8\n    ensures { result \u2261 1 -- "\n    }\n{\n    1\n}\n',
+            2,
+            "in a comment of ghost code",
+        )
+        self.stops(
+            "fn one() -> u8\n    ensures { result \u2261 1 // {\n    }\n{\n    1 }\n}\n",
+            2,
+            "in a comment of ghost code",
+        )
+        self.stops(
+            "fn one() -> u8\n    ensures { result \u2261 '{' }\n{\n    1\n}\n}\n",
+            2,
+            "in a character",
+        )
+        self.stops(
+            "fn one() -> u8\n    ensures { result /* { */ }\n{\n    1\n}\n}\n",
+            2,
+            "in a character or a comment",
+        )
         # A bracket that is not closed takes code with it.
-        self.stops("fn one() -> u8\n    ensures { { result }\n{\n    1\n}\n}\n", 3, "goes on further to the left")
+        self.stops(
+            "fn one() -> u8\n    ensures { { result }\n{\n    1\n}\n}\n",
+            3,
+            "goes on further to the left",
+        )
 
     def test_what_is_not_read(self):
         self.stops('fn one() {}\n/* " */\n', 2, "a comment in lines of code")
@@ -94,39 +121,74 @@ class Stops(unittest.TestCase):
             self.stops(f"fn one() {{\n    let a = {text};\n}}\n", 2, "a raw text")
 
     def test_sizes(self):
-        self.stops("static A: usize =\n    size_of::<(u8, u32, u8)>();\n", 2, "the size of what is not known")
-        self.stops("struct One(u8);\n\nstatic A: usize = size_of::<One>();\n", 3, "the size of One, which is not repr(C)")
-        self.stops("static A: usize = size_of::<Two>();\n", 1, "the size of Two, which is not repr(C)")
-        self.stops("use tz_zone::inner::ZoneData;\n\nstatic A: usize = size_of::<ZoneData<'static>>();\n", 3, "the size of ZoneData")
+        self.stops(
+            "static A: usize =\n    size_of::<(u8, u32, u8)>();\n",
+            2,
+            "the size of what is not known",
+        )
+        self.stops(
+            "struct One(u8);\n\nstatic A: usize = size_of::<One>();\n",
+            3,
+            "the size of One, which is not repr(C)",
+        )
+        self.stops(
+            "static A: usize = size_of::<Two>();\n", 1, "the size of Two, which is not repr(C)"
+        )
+        self.stops(
+            "use tz_zone::inner::ZoneData;\n\nstatic A: usize = size_of::<ZoneData<'static>>();\n",
+            3,
+            "the size of ZoneData",
+        )
         self.stops("fn one(a: &One) -> usize {\n    size_of_val(a)\n}\n", 2, "size_of_val")
-        erased("#[repr(C)]\nstruct One(u8);\n\nstatic A: usize = size_of::<One>() + size_of::<u8>();\n")
+        erased(
+            "#[repr(C)]\nstruct One(u8);\n\nstatic A: usize = size_of::<One>() + size_of::<u8>();\n"
+        )
 
     def test_ranges(self):
         for body in ("(250u8..).take(9)", "two(a..)", "let b = a..;", "for i in 0.. {}"):
             self.stops(f"fn one(a: u8) {{\n    {body}\n}}\n", 2, "a range without an end")
         for body in ("..v[5]", "..two()", "..*two().a"):
-            self.stops(f"fn one() -> S {{\n    S {{ a: 1, {body} }}\n}}\n", 2, "fields of what is computed")
-        erased("fn one() {\n    let S { a, .. } = S { a: 1, ..*b.c };\n    let [d, .., e] = &f[2..];\n    let Some(g @ 1..) = h(..) else {};\n}\n")
+            self.stops(
+                f"fn one() -> S {{\n    S {{ a: 1, {body} }}\n}}\n", 2, "fields of what is computed"
+            )
+        erased(
+            "fn one() {\n    let S { a, .. } = S { a: 1, ..*b.c };\n    let [d, .., e] = &f[2..];\n    let Some(g @ 1..) = h(..) else {};\n}\n"
+        )
 
     def test_floats_and_orders(self):
         for body in ("a.min(1.5)", "a as f64", "2e3", "1f32"):
             self.stops(f"fn one() {{\n    {body}\n}}\n", 2, "a float")
         erased("fn one() {\n    (a.0.min(0xf64), b.1)\n}\n")
-        self.stops("#[derive(PartialEq, PartialOrd)]\nenum One {\n    Two = 2,\n    Three = 1,\n}\n", 1, "an order of an enum with numbers: One")
+        self.stops(
+            "#[derive(PartialEq, PartialOrd)]\nenum One {\n    Two = 2,\n    Three = 1,\n}\n",
+            1,
+            "an order of an enum with numbers: One",
+        )
 
     def test_laws(self):
         for argument in ("next(&mut x)", "&mut x", "x = 1", "x?"):
-            with self.assertRaisesRegex(Stop, f"{PATH}: an argument of a law that may do something: law"):
+            with self.assertRaisesRegex(
+                Stop, f"{PATH}: an argument of a law that may do something: law"
+            ):
                 erased(f"use crate::laws::law;\n\nfn one() {{\n    law({argument});\n}}\n")
-        self.assertEqual(erased("use crate::laws::law;\n\nfn one() {\n    law(&x, y.z);\n}\n").split(), "fn one() { }".split())
+        self.assertEqual(
+            erased("use crate::laws::law;\n\nfn one() {\n    law(&x, y.z);\n}\n").split(),
+            "fn one() { }".split(),
+        )
 
     def test_texts_of_errors(self):
         for text in ("bad: {0:?}", "{{", "{{0}}", "{1}", "{}", "}"):
             with self.assertRaisesRegex(Stop, f"{PATH}: a text of One in a form that is not known"):
-                erased(f'use thiserror::Error;\n\n#[derive(Error)]\nenum One {{\n    #[error("{text}")]\n    Two(u8),\n}}\n')
+                erased(
+                    f'use thiserror::Error;\n\n#[derive(Error)]\nenum One {{\n    #[error("{text}")]\n    Two(u8),\n}}\n'
+                )
         with self.assertRaisesRegex(Stop, "a text of One in a form that is not known"):
-            erased('use thiserror::Error;\n\n#[derive(Error)]\nenum One {\n    #[error("{0}")]\n    Two,\n}\n')
-        made = erased('use thiserror::Error;\n\n#[derive(Error)]\nenum One {\n    #[error("a // {0}, {0}")]\n    Two(u8),\n}\n')
+            erased(
+                'use thiserror::Error;\n\n#[derive(Error)]\nenum One {\n    #[error("{0}")]\n    Two,\n}\n'
+            )
+        made = erased(
+            'use thiserror::Error;\n\n#[derive(Error)]\nenum One {\n    #[error("a // {0}, {0}")]\n    Two(u8),\n}\n'
+        )
         self.assertIn('One::Two(error) => write!(f, "a // {error}, {error}")', made)
         fields = 'use thiserror::Error;\n\n#[derive(Error)]\nenum One {\n    #[error("at {at}")]\n    Two { at: u8, of: u8 },\n}\n'
         self.assertIn('One::Two { at, .. } => write!(f, "at {at}")', erased(fields))
@@ -135,7 +197,9 @@ class Stops(unittest.TestCase):
 
     def test_a_field_that_is_not_compared(self):
         with self.assertRaisesRegex(Stop, f"{PATH}: a field that is not compared: b:"):
-            erased("struct One {\n    a: u8,\n    #[derive_where(skip(EqHashOrd))]\n    b: u8,\n}\n")
+            erased(
+                "struct One {\n    a: u8,\n    #[derive_where(skip(EqHashOrd))]\n    b: u8,\n}\n"
+            )
 
 
 class Texts(unittest.TestCase):
@@ -145,8 +209,22 @@ class Texts(unittest.TestCase):
         erasure.CONST[PATH] = {"every function"}
         self.addCleanup(erasure.CONST.pop, PATH)
         for text in (
-            "a + Drop b", "std::io", "i64::try_from(a)", "\n#[derive(Drop)]\n", "a  \n  b", "<T: Drop>", "fn fmt<W: fmt::Write>(", "crate::one",
-            "\nuse std::str;\n", "for i in 0..2 {", "&mut V", "requires x { y }", "ghost a = {", "a // b", "(a)?", '\\"#[error(1)]\\"',
+            "a + Drop b",
+            "std::io",
+            "i64::try_from(a)",
+            "\n#[derive(Drop)]\n",
+            "a  \n  b",
+            "<T: Drop>",
+            "fn fmt<W: fmt::Write>(",
+            "crate::one",
+            "\nuse std::str;\n",
+            "for i in 0..2 {",
+            "&mut V",
+            "requires x { y }",
+            "ghost a = {",
+            "a // b",
+            "(a)?",
+            '\\"#[error(1)]\\"',
         ):
             with self.subTest(text):
                 self.assertIn(f'"{text}"', erased(f'fn one() {{\n    two("{text}");\n}}\n'))
@@ -174,7 +252,9 @@ class Cuts(unittest.TestCase):
             "impl Model for Two {\n    ghost Value = { ℕ };\n}\n"
         )
         cut = without_ghosts(PATH, text)
-        self.assertEqual(cut.split(), "/// Docs. pub fn one(x: u8) -> u8 { x } struct Two { x: u8, }".split())
+        self.assertEqual(
+            cut.split(), "/// Docs. pub fn one(x: u8) -> u8 { x } struct Two { x: u8, }".split()
+        )
 
     def test_constants(self):
         erasure.CONST[PATH] = {"one"}
@@ -221,7 +301,9 @@ class Exports(unittest.TestCase):
         return own, exports.exported([(PATH, "crate::one", text)])
 
     def test_slices_and_structs_of_slices(self):
-        own, made = self.both("a: Global, b: &[i64], c: &ZoneData<'_>, d: &mut [u8], e: i8, f: &mut usize")
+        own, made = self.both(
+            "a: Global, b: &[i64], c: &ZoneData<'_>, d: &mut [u8], e: i8, f: &mut usize"
+        )
         self.assertIn("/// Docs.\n#[inline(always)]\npub fn two(a: Global, b: &[i64], c:", own)
         self.assertIn("use crate::{one};", made)
         self.assertIn(
@@ -238,24 +320,46 @@ class Exports(unittest.TestCase):
         self.addCleanup(erasure.OPEN_FIELDS.pop, PATH)
         erasure.OPEN_FIELDS[PATH] = ("PartsData",)
         made = exports.exported([(PATH, "crate::one", text)])
-        self.assertIn("pub struct Parts {\n    one: *const One,\n    one_length: usize,\n    two: OffsetsData\n}", made)
-        self.assertIn("unsafe { PartsData { one: list(self.one, self.one_length), two: self.two } }", made)
-        self.assertIn("let (one, one_length) = lent(data.one);\n        let two = data.two;\n        Parts { one, one_length, two }", made)
-        with self.assertRaisesRegex(Stop, "PartsData has what is not known to cross: pub one: Option<u8>"):
+        self.assertIn(
+            "pub struct Parts {\n    one: *const One,\n    one_length: usize,\n    two: OffsetsData\n}",
+            made,
+        )
+        self.assertIn(
+            "unsafe { PartsData { one: list(self.one, self.one_length), two: self.two } }", made
+        )
+        self.assertIn(
+            "let (one, one_length) = lent(data.one);\n        let two = data.two;\n        Parts { one, one_length, two }",
+            made,
+        )
+        with self.assertRaisesRegex(
+            Stop, "PartsData has what is not known to cross: pub one: Option<u8>"
+        ):
             exports.exported([(PATH, "crate::one", text.replace("&'a [One]", "Option<u8>"))])
 
     def test_single_values(self):
         _, made = self.both("a: bool")
-        self.assertIn('#[unsafe(no_mangle)]\npub extern "C" fn two(a: bool) -> u32 {\n    one::two(a)\n}', made)
+        self.assertIn(
+            '#[unsafe(no_mangle)]\npub extern "C" fn two(a: bool) -> u32 {\n    one::two(a)\n}',
+            made,
+        )
         _, made = self.both("a: &u64")
         self.assertIn("let a = unsafe { one(a) };\n    one::two(a)\n}", made)
         _, made = self.both("a: &u64, b: &mut u8, c: &mut u64")
-        self.assertIn("let (a, mut b, mut c) = unsafe { (one(a), Out::new(b), Out::new(c)) };", made)
+        self.assertIn(
+            "let (a, mut b, mut c) = unsafe { (one(a), Out::new(b), Out::new(c)) };", made
+        )
         self.assertIn("let answer = one::two(a, &mut b.value, &mut c.value);", made)
         self.assertIn("unsafe { b.write(answer); c.write(answer) };\n    answer\n}", made)
 
     def test_stops(self):
-        for given in ("a: Two", "a: &Option<u8>", "a: &mut ZoneData<'_>", "a: ZoneData<'_>", "a: *const u8", "a: &[ZoneData<'_>]"):
+        for given in (
+            "a: Two",
+            "a: &Option<u8>",
+            "a: &mut ZoneData<'_>",
+            "a: ZoneData<'_>",
+            "a: *const u8",
+            "a: &[ZoneData<'_>]",
+        ):
             with self.assertRaisesRegex(Stop, "two takes what is not known to cross"):
                 self.both(given)
         with self.assertRaisesRegex(Stop, "two writes to a value, and answers no code: -> u8"):
@@ -268,13 +372,16 @@ class Methods(unittest.TestCase):
     """A function that is a method of another crate's type."""
 
     def made(self, text, **methods):
-        erasure.METHODS[PATH] = {name.replace("__", "::"): method for name, method in methods.items()}
+        erasure.METHODS[PATH] = {
+            name.replace("__", "::"): method for name, method in methods.items()
+        }
         self.addCleanup(erasure.METHODS.pop, PATH, None)
         return " ".join(erased(text).split())
 
     def test_the_method_has_the_docs(self):
         made = self.made(
-            "/// Docs.\n#[inline]\npub const fn one(zone: &Zone<'_>, at: i64) -> Option<i64>\n    ensures { x }\n{\n    Some(at)\n}\n", one="Zone::two"
+            "/// Docs.\n#[inline]\npub const fn one(zone: &Zone<'_>, at: i64) -> Option<i64>\n    ensures { x }\n{\n    Some(at)\n}\n",
+            one="Zone::two",
         )
         wanted = (
             "#[inline] #[must_use] pub const fn one(_zone: &Zone<'_>, at: i64) -> Option<i64> { Some(at) }"
@@ -283,23 +390,49 @@ class Methods(unittest.TestCase):
         self.assertEqual(wanted, made)
 
     def test_associated_functions(self):
-        made = self.made("impl Date {\n    /// Docs.\n    pub fn of(from: &Time) -> Self {\n        Date {}\n    }\n}\n", Date__of="Time::date")
+        made = self.made(
+            "impl Date {\n    /// Docs.\n    pub fn of(from: &Time) -> Self {\n        Date {}\n    }\n}\n",
+            Date__of="Time::date",
+        )
         self.assertIn("impl Date { #[doc(hidden)] #[must_use] pub fn of(_from: &Time)", made)
-        self.assertIn("impl Time { /// Docs. #[must_use] pub fn date(&self) -> Date { Date::of(self) } }", made)
+        self.assertIn(
+            "impl Time { /// Docs. #[must_use] pub fn date(&self) -> Date { Date::of(self) } }",
+            made,
+        )
         made = self.made("pub fn read(text: &str) -> Time {\n    Time {}\n}\n", read="Time::read")
-        self.assertIn("impl Time { #[must_use] pub fn read(text: &str) -> Time { read(text) } }", made)
+        self.assertIn(
+            "impl Time { #[must_use] pub fn read(text: &str) -> Time { read(text) } }", made
+        )
 
     def test_results_that_are_used(self):
         made = " ".join(erased("pub fn one(&self) -> u8 {\n    1\n}\n").split())
         self.assertIn("#[must_use] pub fn one", made)
-        for head in ("pub fn one()", "fn one() -> u8", "pub fn one(two: &mut u8) -> u8", "pub fn one() -> Result<u8, Two>", "pub(crate) fn one() -> u8"):
+        for head in (
+            "pub fn one()",
+            "fn one() -> u8",
+            "pub fn one(two: &mut u8) -> u8",
+            "pub fn one() -> Result<u8, Two>",
+            "pub(crate) fn one() -> u8",
+        ):
             self.assertNotIn("must_use", erased(f"{head} {{\n    1\n}}\n"))
 
     def test_lifetimes_and_names(self):
-        made = self.made("pub fn one<'a, 'b>(zone: Zone<'a>, one: &'b str) -> Two<'a, 'b> {\n    Two {}\n}\n", one="Zone::one")
-        self.assertIn("impl<'a> Zone<'a> { #[must_use] pub fn one<'b>(self, one: &'b str) -> Two<'a, 'b> { self::one(self, one) } }", made)
-        made = self.made("pub fn one<'a>(time: &'a Time, by: &'a [u8]) -> Two<'a> {\n    Two {}\n}\n", one="Time::one")
-        self.assertIn("impl Time { #[must_use] pub fn one<'a>(&'a self, by: &'a [u8]) -> Two<'a> { one(self, by) } }", made)
+        made = self.made(
+            "pub fn one<'a, 'b>(zone: Zone<'a>, one: &'b str) -> Two<'a, 'b> {\n    Two {}\n}\n",
+            one="Zone::one",
+        )
+        self.assertIn(
+            "impl<'a> Zone<'a> { #[must_use] pub fn one<'b>(self, one: &'b str) -> Two<'a, 'b> { self::one(self, one) } }",
+            made,
+        )
+        made = self.made(
+            "pub fn one<'a>(time: &'a Time, by: &'a [u8]) -> Two<'a> {\n    Two {}\n}\n",
+            one="Time::one",
+        )
+        self.assertIn(
+            "impl Time { #[must_use] pub fn one<'a>(&'a self, by: &'a [u8]) -> Two<'a> { one(self, by) } }",
+            made,
+        )
 
     def test_examples(self):
         made = self.made(
@@ -307,7 +440,10 @@ class Methods(unittest.TestCase):
             "pub fn one(zone: &Zone<'_>) {}\n",
             one="Zone::one",
         )
-        self.assertIn("/// assert_eq!(zone.one(Date::new(2018, 11, 4)?)?, this.zone.lent().one(two)?); /// zone.one()", made)
+        self.assertIn(
+            "/// assert_eq!(zone.one(Date::new(2018, 11, 4)?)?, this.zone.lent().one(two)?); /// zone.one()",
+            made,
+        )
 
     def test_stops(self):
         with self.assertRaisesRegex(Stop, f"{PATH}:1: a method in a form that is not known: one"):
@@ -320,7 +456,9 @@ class Lints(unittest.TestCase):
     """What lints ask of code without its contracts."""
 
     def test_a_parameter_that_contracts_alone_read(self):
-        made = erased("fn one<T: Two>(at: i64, mut by: T, name: &str) -> u8 {\n    three(self, by)\n}\n\ntrait Four {\n    fn five(at: i64);\n}\n")
+        made = erased(
+            "fn one<T: Two>(at: i64, mut by: T, name: &str) -> u8 {\n    three(self, by)\n}\n\ntrait Four {\n    fn five(at: i64);\n}\n"
+        )
         self.assertIn("fn one<T: Two>(_at: i64, mut by: T, _name: &str)", made)
         self.assertIn("fn five(at: i64);", made)
         self.assertIn("fn one(at: i64)", erased('fn one(at: i64) {\n    write!(f, "{at}")\n}\n'))
@@ -328,20 +466,31 @@ class Lints(unittest.TestCase):
     def test_many_parameters(self):
         seven = "fn one(&self, " + ", ".join(f"p{it}: Two<u8, u8>" for it in range(6)) + ") {}\n"
         self.assertNotIn("allow", erased(seven))
-        self.assertIn("/// Docs.\n#[allow(clippy::too_many_arguments)]\n#[inline]\npub fn", erased("/// Docs.\n#[inline]\npub " + seven.replace("&self,", "&self, q: u8,")))
+        self.assertIn(
+            "/// Docs.\n#[allow(clippy::too_many_arguments)]\n#[inline]\npub fn",
+            erased("/// Docs.\n#[inline]\npub " + seven.replace("&self,", "&self, q: u8,")),
+        )
 
     def test_allowed(self):
         erasure.ALLOWED[PATH] = {"One::two": ("three", "four")}
         self.addCleanup(erasure.ALLOWED.pop, PATH)
-        self.assertIn("impl One {\n    #[allow(three, four)]\nfn two", erased("impl One {\n    fn two() {}\n}\n"))
+        self.assertIn(
+            "impl One {\n    #[allow(three, four)]\nfn two",
+            erased("impl One {\n    fn two() {}\n}\n"),
+        )
         with self.assertRaisesRegex(Stop, f"{PATH}: there is no One::two"):
             erased("fn two() {}\n")
 
     def test_imports_of_what_is_left_out(self):
         erasure.LEFT_OUT[PATH] = {"one"}
         self.addCleanup(erasure.LEFT_OUT.pop, PATH)
-        made = erased("use crate::two;\nuse super::{three, four as five};\npub use crate::six;\n\nfn one() {\n    two(five, six)\n}\n\nfn seven() {\n    three()\n}\n")
-        self.assertEqual("use super::{three};\npub use crate::proved::tz_base::six; fn seven() { three() }", " ".join(made.split()).replace("; pub", ";\npub"))
+        made = erased(
+            "use crate::two;\nuse super::{three, four as five};\npub use crate::six;\n\nfn one() {\n    two(five, six)\n}\n\nfn seven() {\n    three()\n}\n"
+        )
+        self.assertEqual(
+            "use super::{three};\npub use crate::proved::tz_base::six; fn seven() { three() }",
+            " ".join(made.split()).replace("; pub", ";\npub"),
+        )
 
     def test_a_match_over_errors(self):
         for arms, has in (
@@ -352,7 +501,9 @@ class Lints(unittest.TestCase):
             ("TzError::OutOfRange => 1, other if other.is_one() => 2,", True),
             ("Fault::One => 1,", False),
         ):
-            made = lints.with_arms_for_more(PATH, f"fn one() -> u8 {{\n    match two(3) {{\n        {arms}\n    }}\n}}\n")
+            made = lints.with_arms_for_more(
+                PATH, f"fn one() -> u8 {{\n    match two(3) {{\n        {arms}\n    }}\n}}\n"
+            )
             with self.subTest(arms):
                 self.assertEqual(has, "_ => unreachable!(),\n}" in made)
 
@@ -366,14 +517,18 @@ class Packages(unittest.TestCase):
         return forms.erased(self.PACKAGE, "crates/tz_query/src/example.rt", text)
 
     def test_paths_of_crates(self):
-        made = self.made("use crate::query::answer;\nuse tz::inner::Fields;\nuse tz_zone::parse;\nfn one() { tz::two(tz.tz) }\n")
+        made = self.made(
+            "use crate::query::answer;\nuse tz::inner::Fields;\nuse tz_zone::parse;\nfn one() { tz::two(tz.tz) }\n"
+        )
         self.assertIn("use crate::proved::tz_query::query::answer;", made)
         self.assertIn("use tz::proved::tz::inner::Fields;", made)
         self.assertIn("use tz::proved::tz_zone::parse;", made)
         self.assertIn("fn one() { tz::proved::tz::two(tz.tz) }", made)
 
     def test_a_private_error(self):
-        made = self.made('use thiserror::Error;\n\n#[derive(Drop, Error)]\nenum One {\n    #[error("two")]\n    Two,\n}\n')
+        made = self.made(
+            'use thiserror::Error;\n\n#[derive(Drop, Error)]\nenum One {\n    #[error("two")]\n    Two,\n}\n'
+        )
         self.assertIn('One::Two => f.write_str("two")', made)
         self.assertNotIn("non_exhaustive", made)
 
@@ -397,7 +552,10 @@ class Features(unittest.TestCase):
         self.assertIn("/// Docs.\n#[inline]\npub fn four", made["one"])
         self.assertIn(f"use crate::one::{{four}};\n{alloc}use crate::one::{{Three}};", made["two"])
         self.assertIn(f"\n{alloc}impl Six for Three {{\n    fn seven() {{}}", made["two"])
-        self.assertIn(f"impl Eight {{\n    {alloc}fn nine(a: &Three) {{}}\n\n    fn ten() {{}}\n}}", made["two"])
+        self.assertIn(
+            f"impl Eight {{\n    {alloc}fn nine(a: &Three) {{}}\n\n    fn ten() {{}}\n}}",
+            made["two"],
+        )
         self.assertEqual(made["three"].count("#["), 1)
         self.assertIn(f"\n{std}fn file", made["three"])
 
@@ -421,14 +579,23 @@ class Features(unittest.TestCase):
             self.made(one=text)
 
     def test_imports_that_such_items_alone_name(self):
-        made = self.made(one="use super::two;\nuse super::three;\n\nfn four(a: Vec<u8>) { two(three) }\n\nfn five() { three() }\n")
-        self.assertIn(f"{features.attribute('alloc')}use super::{{two}};\nuse super::three;\n", made["one"])
+        made = self.made(
+            one="use super::two;\nuse super::three;\n\nfn four(a: Vec<u8>) { two(three) }\n\nfn five() { three() }\n"
+        )
+        self.assertIn(
+            f"{features.attribute('alloc')}use super::{{two}};\nuse super::three;\n", made["one"]
+        )
 
     def test_variants(self):
-        variants, arms = "    Io(anyhow::Error),\n    Tz(u8),\n", "        Error::Io(it) => 1,\n        Error::Tz(it) => 2,\n"
+        variants, arms = (
+            "    Io(anyhow::Error),\n    Tz(u8),\n",
+            "        Error::Io(it) => 1,\n        Error::Tz(it) => 2,\n",
+        )
         text = f"pub enum Error {{\n{variants}}}\n\nfn one(error: Error) {{\n    match error {{\n{arms}    }}\n}}\n"
         alloc = features.attribute("alloc")
-        wanted = text.replace("    Io(", f"{alloc}    Io(").replace("Error::Io(", f"{alloc}Error::Io(")
+        wanted = text.replace("    Io(", f"{alloc}    Io(").replace(
+            "Error::Io(", f"{alloc}Error::Io("
+        )
         self.assertEqual(self.made(error=text)["error"], wanted)
         with self.assertRaisesRegex(Stop, "Error::Io stands 0 times"):
             self.made(error="fn one() {}\n")
@@ -441,16 +608,25 @@ class Checks(unittest.TestCase):
         top = os.path.dirname(os.path.dirname(os.path.dirname(os.path.realpath(__file__))))
         with tempfile.TemporaryDirectory() as folder:
             for name in ("bindings", "crates"):
-                shutil.copytree(f"{top}/{name}", f"{folder}/{name}", ignore=shutil.ignore_patterns("out", "target", "proofs", "must-fail"))
+                shutil.copytree(
+                    f"{top}/{name}",
+                    f"{folder}/{name}",
+                    ignore=shutil.ignore_patterns("out", "target", "proofs", "must-fail"),
+                )
             source = f"{folder}/crates/tz_base/src/calendar.rt"
             with open(source, encoding="utf-8") as file:
                 text = file.read()
             with open(source, "w", encoding="utf-8") as file:
                 file.write(text.replace("146_097", "146_096", 1))
             self.assertNotEqual(text.replace("146_097", "146_096", 1), text)
-            ran = subprocess.run([f"{folder}/bindings/erase", "--check"], capture_output=True, text=True)
+            ran = subprocess.run(
+                [f"{folder}/bindings/erase", "--check"], capture_output=True, text=True
+            )
             self.assertEqual(ran.returncode, 1)
-            self.assertRegex(ran.stderr, r"bindings/rust/src/proved/tz_base/calendar.rs:\d+: is not what bindings/erase makes of crates/tz_base/src/calendar.rt")
+            self.assertRegex(
+                ran.stderr,
+                r"bindings/rust/src/proved/tz_base/calendar.rs:\d+: is not what bindings/erase makes of crates/tz_base/src/calendar.rt",
+            )
 
 
 if __name__ == "__main__":

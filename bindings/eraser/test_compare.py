@@ -9,7 +9,9 @@ HERE = os.path.dirname(os.path.realpath(__file__))
 
 def loaded():
     loader = importlib.machinery.SourceFileLoader("compare_tokens", f"{HERE}/../compare_tokens")
-    module = importlib.util.module_from_spec(importlib.util.spec_from_loader("compare_tokens", loader))
+    module = importlib.util.module_from_spec(
+        importlib.util.spec_from_loader("compare_tokens", loader)
+    )
     loader.exec_module(module)
     return module
 
@@ -40,9 +42,24 @@ class Forms(unittest.TestCase):
         ("i128::from(high) - i128::from(low)", "high as i128 - low as i128", compare.CAST, 2),
         ("-i64::from(a.b(c)[0].d + 1)", "-((a.b(c)[0].d + 1) as i64)", compare.CAST, 1),
         ("i64::from(-x).abs()", "(-x as i64).abs()", compare.CAST, 1),
-        ("two(a?.b(c)?)?", f"match two(match (match a {NONE}).b(c) {NONE}) {NONE}", compare.RETURN_NONE, 3),
-        ("let b = two::<u8>(a)?;", "let b = match two::<u8>(a) { Ok(value) => value, Err(error) => return Err(error), };", compare.RETURN_ERROR, 1),
-        ("(a + b).min(c).max(2)", "crate::shim::greatest!(crate::shim::least!(a + b, c), 2)", compare.COMPARED["least"], 1),
+        (
+            "two(a?.b(c)?)?",
+            f"match two(match (match a {NONE}).b(c) {NONE}) {NONE}",
+            compare.RETURN_NONE,
+            3,
+        ),
+        (
+            "let b = two::<u8>(a)?;",
+            "let b = match two::<u8>(a) { Ok(value) => value, Err(error) => return Err(error), };",
+            compare.RETURN_ERROR,
+            1,
+        ),
+        (
+            "(a + b).min(c).max(2)",
+            "crate::shim::greatest!(crate::shim::least!(a + b, c), 2)",
+            compare.COMPARED["least"],
+            1,
+        ),
         ("two(&a.b[..n + 1], 3)", "two(a.b.split_at(n + 1).0, 3)", compare.FIRST, 1),
         ("i64::try_from(a - b)", "crate::shim::narrow(a - b)", compare.NARROW, 1),
         ("unsafe { str::from_utf8_unchecked(a) }", "crate::shim::text(a)", compare.TEXT, 1),
@@ -73,8 +90,14 @@ class Forms(unittest.TestCase):
         ("-a.min(b)", "crate::shim::least!(-a, b)"),
         ("&a[..n]", "a.split_at(n).1"),
         ("for i in 0..n {\n        i;\n    }", "let mut i = 0; while i < n { i; i += 1; }"),
-        ("for i in 0..n {\n        i;\n    }", "{ let mut i = 0; let i_end = n; while i <= i_end { i; i += 1; } }"),
-        ("for i in 0..n {\n        let i = 2;\n    }", "{ let mut i = 0; let i_end = n; while i < i_end { let i = 2; i += 1; } }"),
+        (
+            "for i in 0..n {\n        i;\n    }",
+            "{ let mut i = 0; let i_end = n; while i <= i_end { i; i += 1; } }",
+        ),
+        (
+            "for i in 0..n {\n        let i = 2;\n    }",
+            "{ let mut i = 0; let i_end = n; while i < i_end { let i = 2; i += 1; } }",
+        ),
         ("a.saturating_add(b)", "a.wrapping_add(b)"),
         ('"a // b"', '"a // c"'),
         ('"std::io + Drop"', '"core::io"'),
@@ -85,7 +108,13 @@ class Forms(unittest.TestCase):
     def test_others(self):
         for source, made in self.OTHERS:
             with self.subTest(made):
-                forms = {compare.CAST, compare.RETURN_NONE, compare.FIRST, compare.LOOP, *compare.COMPARED.values()}
+                forms = {
+                    compare.CAST,
+                    compare.RETURN_NONE,
+                    compare.FIRST,
+                    compare.LOOP,
+                    *compare.COMPARED.values(),
+                }
                 self.assertTrue(set(kinds(body(source), body(made))) - forms)
 
     def test_a_text_that_is_not_read(self):
@@ -112,7 +141,13 @@ class Ghosts(unittest.TestCase):
             "impl Model for Two {\n    ghost Value = { ℕ };\n}\n\nconst _: () = prove!(\n    a;\n);\n\n"
             "struct Two {\n    x: u8,\n    pub ghost fact: { x ≡ x } by {\n        refl\n    },\n}\n"
         )
-        self.assertEqual(kinds(source, "pub fn one(x: u8) -> u8 { x } trait Two { fn three(&self); } struct Two { x: u8 }"), {})
+        self.assertEqual(
+            kinds(
+                source,
+                "pub fn one(x: u8) -> u8 { x } trait Two { fn three(&self); } struct Two { x: u8 }",
+            ),
+            {},
+        )
 
     def test_clauses_without_a_body(self):
         with self.assertRaises(compare.Odd):
@@ -123,7 +158,10 @@ class Items(unittest.TestCase):
     def test_items_that_are_left_out_or_new(self):
         source = "impl One {\n    fn two() {}\n\n    fn three() {}\n}\n"
         self.assertEqual(kinds(source, "impl One { fn three() {} }"), {"- all of One::two": 1})
-        self.assertEqual(kinds(source, "impl One { fn two() {} fn three() {} fn four() {} }"), {"+ fn four() { }": 1})
+        self.assertEqual(
+            kinds(source, "impl One { fn two() {} fn three() {} fn four() {} }"),
+            {"+ fn four() { }": 1},
+        )
         self.assertEqual(kinds(source, ""), {"- all of impl One": 1})
 
     def test_texts_of_errors(self):
@@ -135,12 +173,18 @@ class Items(unittest.TestCase):
         )
         self.assertEqual(kinds(source, made), {"- Error in #[derive(..)]": 1, compare.ERROR: 2})
         self.assertNotIn(compare.ERROR, kinds(source, made.replace('"a"', '"c"')))
-        self.assertNotIn(compare.ERROR, kinds(source.replace("{0}", "{0:?}"), made.replace("{error}", "{0:?}")))
-        self.assertNotIn(compare.ERROR, kinds(source.replace('"a"', '"{{0}}"'), made.replace('"a"', '"{{0}}"')))
+        self.assertNotIn(
+            compare.ERROR, kinds(source.replace("{0}", "{0:?}"), made.replace("{error}", "{0:?}"))
+        )
+        self.assertNotIn(
+            compare.ERROR, kinds(source.replace('"a"', '"{{0}}"'), made.replace('"a"', '"{{0}}"'))
+        )
 
     def test_attributes(self):
         self.assertTrue(kinds("#[derive_where(skip(EqHashOrd))]\nstruct One;\n", "struct One;"))
-        self.assertTrue(kinds("#[derive(Clone, PartialEq)]\nstruct One;\n", "#[derive(Clone)] struct One;"))
+        self.assertTrue(
+            kinds("#[derive(Clone, PartialEq)]\nstruct One;\n", "#[derive(Clone)] struct One;")
+        )
         self.assertTrue(kinds("#[repr(C)]\nstruct One;\n", "struct One;"))
 
 
@@ -203,7 +247,9 @@ class Exports(unittest.TestCase):
                 self.assertIn(old, self.MADE)
                 found = compare.Kinds()
                 compare.exports_compared(found, [self.SOURCE], self.MADE.replace(old, new))
-                self.assertTrue(set(found.places) != {compare.EXPORT, compare.MIRROR} or found.imports)
+                self.assertTrue(
+                    set(found.places) != {compare.EXPORT, compare.MIRROR} or found.imports
+                )
 
 
 class Lists(unittest.TestCase):

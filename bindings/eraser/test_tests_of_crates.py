@@ -26,13 +26,19 @@ def said(path, text):
     return Counter(
         it.text
         for it, after in zip(tokens, tokens[1:])
-        if it.kind in ("number", "string", "char") or it.kind == "word" and after.text in "(!" and re.match("expect|assert|matches", it.text)
+        if it.kind in ("number", "string", "char")
+        or it.kind == "word"
+        and after.text in "(!"
+        and re.match("expect|assert|matches", it.text)
     )
 
 
 class Repository(unittest.TestCase):
     def setUp(self):
-        self.sources = sorted(os.path.relpath(it, TOP) for it in glob.glob(f"{TOP}/crates/*/src/**/*.rt", recursive=True))
+        self.sources = sorted(
+            os.path.relpath(it, TOP)
+            for it in glob.glob(f"{TOP}/crates/*/src/**/*.rt", recursive=True)
+        )
 
     def test_each_test_is_made_or_listed(self):
         listed = tests_of_crates.left_out()
@@ -41,7 +47,9 @@ class Repository(unittest.TestCase):
             names = set(TEST.findall(read(source)))
             if not names:
                 continue
-            self.assertIn(source.split("/")[1], PACKAGE.crates, "a crate of tests that no file is made of")
+            self.assertIn(
+                source.split("/")[1], PACKAGE.crates, "a crate of tests that no file is made of"
+            )
             made = set(TEST.findall(read(PACKAGE.target(source))))
             self.assertEqual(names, made | set(listed.get(source, ())), source)
             self.assertFalse(made & set(listed.get(source, ())), source)
@@ -59,7 +67,9 @@ class Repository(unittest.TestCase):
                 for old, new in tests_of_crates.EXACT.get(source, ()):
                     text = text.replace(old, new)
                 text = tests_of_crates.without_left_out(source, without_ghosts(source, text))
-                self.assertEqual(said(source, text), said(source, read(PACKAGE.target(source))), source)
+                self.assertEqual(
+                    said(source, text), said(source, read(PACKAGE.target(source))), source
+                )
 
 
 class Forms(unittest.TestCase):
@@ -73,7 +83,10 @@ class Forms(unittest.TestCase):
             '    let text = format!(in rt.alloc(); "{}", 3)?;\n    Ok(())\n}\n'
         )
         self.assertIn("use crate::kit::{format_in, self};", made)
-        self.assertIn("use crate::erased::tz_tests::expect::expect_eq;\nuse crate::kit::test::Fail;\nuse crate::utc;", made)
+        self.assertIn(
+            "use crate::erased::tz_tests::expect::expect_eq;\nuse crate::kit::test::Fail;\nuse crate::utc;",
+            made,
+        )
         self.assertIn("#[test]\nfn one() -> Result<(), Fail> { let rt = kit::HostRuntime;", made)
         self.assertIn("assert!( two(rt.alloc())? > 0);", made)
         self.assertIn('format_in!(rt.alloc(); "{}", 3)?', made)

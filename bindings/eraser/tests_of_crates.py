@@ -38,17 +38,25 @@ PATHS = (
     (r"\bstd::(process|test)\b", r"crate::kit::\1"),
     (r"\bstd::fs::Files\b", "tz::shim::rt::Files"),
     (r"\bstd::alloc\b", "tz::shim::alloc"),
-    (r"\buse std::io::\{self, Read, Write\};", "use crate::shim::io::Write;\nuse std::io::{self, Read};"),
+    (
+        r"\buse std::io::\{self, Read, Write\};",
+        "use crate::shim::io::Write;\nuse std::io::{self, Read};",
+    ),
     (r"\buse anyhow::anyhow;", "use crate::kit::anyhow;"),
     (r"\banyhow::anyhow!", "crate::kit::anyhow!"),
     (r"\buse anyhow::\{Context, Result\};", "use crate::kit::{Context, Result};"),
     (r"\banyhow::Result<", "crate::kit::Result<"),
-    (r"\bstd::time::\{Clock, SystemTime, UNIX_EPOCH\}", "crate::kit::time::{Clock, SystemTime, UNIX_EPOCH}"),
+    (
+        r"\bstd::time::\{Clock, SystemTime, UNIX_EPOCH\}",
+        "crate::kit::time::{Clock, SystemTime, UNIX_EPOCH}",
+    ),
 )
 
 # Texts that are replaced, each of which stands once.
 EXACT = {
-    "crates/tz_tests/src/find/memory.rt": (("Some(copy == list)", "Some(kit::are_equal(&copy, &list))"),),
+    "crates/tz_tests/src/find/memory.rt": (
+        ("Some(copy == list)", "Some(kit::are_equal(&copy, &list))"),
+    ),
     # An allocator of Rust's counts blocks, and has no pointers.
     "crates/tz_samples/src/refusing.rt": (
         (
@@ -87,7 +95,11 @@ EXACT = {
 # Tests have crates of their own.
 PACKAGE = erasure.Package(
     folder="bindings/proved_tests/src/erased",
-    crates=(*sorted(it for it in os.listdir(f"{TOP}/crates") if it.endswith("_tests")), "tz_examples", "tz_samples"),
+    crates=(
+        *sorted(it for it in os.listdir(f"{TOP}/crates") if it.endswith("_tests")),
+        "tz_examples",
+        "tz_samples",
+    ),
     root="crate::erased",
     by_hand={"": "bindings/proved_tests/src/erased/mod.rs"},
     others={
@@ -133,11 +145,15 @@ def known(path, text):
     for at, token in enumerate(tokens[:-2]):
         mark, opening = tokens[at + 1].text, tokens[at + 2].text
         if token.kind == "word" and mark == "!" and opening in OPEN and token.text not in MACROS:
-            raise Stop(f"{path}:{line_of(text, token.start)}: a macro that is not known: {token.text}!")
+            raise Stop(
+                f"{path}:{line_of(text, token.start)}: a macro that is not known: {token.text}!"
+            )
         if token.text == "#" and mark in ("[", "!"):
             name = tokens[at + 2 + (mark == "!")].text
             if name not in ATTRIBUTES:
-                raise Stop(f"{path}:{line_of(text, token.start)}: an attribute that is not known: {name}")
+                raise Stop(
+                    f"{path}:{line_of(text, token.start)}: an attribute that is not known: {name}"
+                )
 
 
 def without_left_out(path, text):
@@ -161,10 +177,17 @@ def with_runtimes(path, text):
     tokens = tokens_of(path, text)
     for at, token in enumerate(tokens):
         if token.text == "HostRuntime":
-            if [it.text for it in tokens[at - 3 : at]] != ["(", "rt", ":"] or tokens[at + 1].text != ")":
-                raise Stop(f"{path}:{line_of(text, token.start)}: a test in a form that is not known")
+            if [it.text for it in tokens[at - 3 : at]] != ["(", "rt", ":"] or tokens[
+                at + 1
+            ].text != ")":
+                raise Stop(
+                    f"{path}:{line_of(text, token.start)}: a test in a form that is not known"
+                )
             body = next(it for it in tokens[at:] if it.text == "{")
-            edits += [(tokens[at - 2].start, token.end, ""), (body.end, body.end, " let rt = kit::HostRuntime;\n")]
+            edits += [
+                (tokens[at - 2].start, token.end, ""),
+                (body.end, body.end, " let rt = kit::HostRuntime;\n"),
+            ]
     return edited(text, edits)
 
 
@@ -183,7 +206,9 @@ def with_paths(package, path, text):
         elif package.path_of_crate(token.text):
             # A macro stands in the package's root.
             of_macro = token.text == "tz_samples" and tokens[at + 2].text == "utc"
-            edits.append((token.start, token.end, "crate" if of_macro else package.path_of_crate(token.text)))
+            edits.append(
+                (token.start, token.end, "crate" if of_macro else package.path_of_crate(token.text))
+            )
     text = edited(text, edits)
     # The paths of PATHS are those of the package already.
     return text.replace("tz::proved::tz::shim::", "tz::shim::")

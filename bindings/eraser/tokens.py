@@ -22,7 +22,12 @@ KINDS = (
     ("lifetime", re.compile(r"'[A-Za-z_]\w*")),
     ("number", re.compile(r"[0-9]\w*(?:\.[0-9]\w*)?")),
     ("word", re.compile(r"[A-Za-z_]\w*", re.A)),
-    ("mark", re.compile(r"->|=>|::|\.\.=|\.\.\.|\.\.|&&|\|\||==|!=|<=|>=|\+=|-=|\*=|/=|%=|\^=|&=|\|=|[!#$%&()*+,\-./:;<=>?@\[\]^{|}~]")),
+    (
+        "mark",
+        re.compile(
+            r"->|=>|::|\.\.=|\.\.\.|\.\.|&&|\|\||==|!=|<=|>=|\+=|-=|\*=|/=|%=|\^=|&=|\|=|[!#$%&()*+,\-./:;<=>?@\[\]^{|}~]"
+        ),
+    ),
 )
 
 
@@ -31,7 +36,13 @@ def line_of(text, at):
 
 
 # What may hold brackets, marks and ghost words that mean nothing.
-UNREAD = (("/*", "a comment in lines of code"), ('r"', "a raw text"), ("r#", "a raw text or name"), ('br"', "a raw text"), ("br#", "a raw text"))
+UNREAD = (
+    ("/*", "a comment in lines of code"),
+    ('r"', "a raw text"),
+    ("r#", "a raw text or name"),
+    ('br"', "a raw text"),
+    ("br#", "a raw text"),
+)
 
 
 def token_at(path, text, at):

@@ -120,10 +120,18 @@ def columns(source):
     codes, offsets, instants = (numpy.zeros(LENGTH, dtype) for dtype in ("u4", "i4", "i8"))
     yield from head("column", "in order", "not in order")
     for name, call, pair in (
-        ("`offsets`, integers", lambda column: OURS.offsets(column, out=offsets, codes=codes), integers),
+        (
+            "`offsets`, integers",
+            lambda column: OURS.offsets(column, out=offsets, codes=codes),
+            integers,
+        ),
         ("`offsets`, `datetime64[ns]`", OURS.offsets, times),
         ("`local_times`, `datetime64[ns]`", OURS.local_times, times),
-        ("`instants`, integers", lambda column: OURS.instants(column, out=instants, codes=codes), integers),
+        (
+            "`instants`, integers",
+            lambda column: OURS.instants(column, out=instants, codes=codes),
+            integers,
+        ),
         ("`instants`, `datetime64[ns]`", OURS.instants, local),
     ):
         calls = [lambda column=column: call(column) for column in pair]

@@ -65,6 +65,7 @@ class WeekDay(collections.namedtuple('WeekDay', 'month week day')):
 
 # Rules
 
+
 class Rule:
     """What a TZ string says (POSIX.1-2017, 8.3, with the hours of RFC 8536, 3.3.1): the type `std`,
     and if clocks change the type `dst`, and the days and times `start` and `end` of the changes to
@@ -94,7 +95,7 @@ class Rule:
         found = re.match(pattern, self.rest, re.ASCII)
         if not found:
             raise self.refused(f'cannot be read from {self.rest!r} on')
-        self.rest = self.rest[found.end():]
+        self.rest = self.rest[found.end() :]
         return found
 
     def take_name(self):
@@ -135,13 +136,18 @@ class Rule:
             return []
         found = collections.defaultdict(list)
         for year in range(first - 1, last + 2):
-            for (day, time), before, after in ((self.start, self.std, self.dst),
-                                               (self.end, self.dst, self.std)):
+            for (day, time), before, after in (
+                (self.start, self.std, self.dst),
+                (self.end, self.dst, self.std),
+            ):
                 found[day.day_in(year) * DAY + time - before.offset].append((year, after))
         if any(len({year for year, _ in changes}) < len(changes) for changes in found.values()):
             raise self.refused('has daylight saving time that ends as it starts')
-        return [(time, changes[0][1]) for time, changes in sorted(found.items())
-                if len(changes) == 1 and first <= changes[0][0] <= last]
+        return [
+            (time, changes[0][1])
+            for time, changes in sorted(found.items())
+            if len(changes) == 1 and first <= changes[0][0] <= last
+        ]
 
     def changes_between(self, after, before):
         """The changes after an instant and before another."""
@@ -172,7 +178,7 @@ def count_to_keep(table, types, rule):
     if rule.type_at(table[-1][0]) != types[table[-1][1]]:
         raise Refused('its rule does not have the type of its last transition')
     while count > 1:
-        (time, index), (next_time, _) = table[count - 2:count]
+        (time, index), (next_time, _) = table[count - 2 : count]
         if rule.type_at(time) != types[index] or rule.changes_between(time, next_time):
             break
         count -= 1
@@ -180,6 +186,7 @@ def count_to_keep(table, types, rule):
 
 
 # Files
+
 
 def read_header(data, at):
     magic, version, *counts = struct.unpack_from('>4sc15x6L', data, at)
@@ -200,17 +207,19 @@ def read_zone(data):
     at += 44
     instants = struct.unpack_from(f'>{times}q', data, at)
     at += 8 * times
-    indices = data[at:at + times]
+    indices = data[at : at + times]
     at += times
     records = [struct.unpack_from('>lBB', data, at + 6 * place) for place in range(type_count)]
     at += 6 * type_count
-    names = data[at:at + chars].decode('ascii')
+    names = data[at : at + chars].decode('ascii')
     at += chars + standard + utc
     footer = re.fullmatch('\n([^\n]*)\n', data[at:].decode('ascii'))
     if not footer:
         raise Refused('it has no footer')
-    types = [Type(offset, is_dst != 0, names[start:names.index('\0', start)])
-             for offset, is_dst, start in records]
+    types = [
+        Type(offset, is_dst != 0, names[start : names.index('\0', start)])
+        for offset, is_dst, start in records
+    ]
     return Zone(tuple(zip(instants, indices)), tuple(types), footer[1])
 
 

@@ -12,8 +12,19 @@ import tempfile
 import time
 import unittest
 
-from database import (DAY, JulianDay, Refused, Rule, Type, WeekDay, YearDay, count_to_keep, read_version,
-                      read_zone, read_zones)
+from database import (
+    DAY,
+    JulianDay,
+    Refused,
+    Rule,
+    Type,
+    WeekDay,
+    YearDay,
+    count_to_keep,
+    read_version,
+    read_zone,
+    read_zones,
+)
 
 EPOCH = datetime.date(1970, 1, 1)
 UTC = datetime.timezone.utc
@@ -29,16 +40,19 @@ def file_of(footer, times=(), version=b'3', leaps=0):
     rule = Rule(footer)
     types = [kind for kind in (rule.std, rule.dst) if kind]
     chars = b''.join(kind.name.encode() + b'\0' for kind in types)
-    records = b''.join(struct.pack('>lBB', kind.offset, kind.is_dst,
-                                   place * (len(types[0].name) + 1))
-                       for place, kind in enumerate(types))
+    records = b''.join(
+        struct.pack('>lBB', kind.offset, kind.is_dst, place * (len(types[0].name) + 1))
+        for place, kind in enumerate(types)
+    )
     indices = bytes((place + 1) % len(types) for place in range(len(times)))
 
     def block(form, size):
-        header = struct.pack('>4sc15x6L', b'TZif', version, 0, 0, leaps, len(times), len(types),
-                             len(chars))
+        header = struct.pack(
+            '>4sc15x6L', b'TZif', version, 0, 0, leaps, len(times), len(types), len(chars)
+        )
         packed = struct.pack(f'>{len(times)}{form}', *times)
         return header + packed + indices + records + chars + bytes(size * leaps)
+
     return block('l', 8) + block('q', 12) + f'\n{footer}\n'.encode()
 
 
@@ -55,8 +69,11 @@ class Days(unittest.TestCase):
                 self.assertEqual(JulianDay(place).day_in(year), (others[place - 1] - EPOCH).days)
             for month in range(1, 13):
                 for week_day in range(7):
-                    found = [day for day in days
-                             if day.month == month and day.isoweekday() % 7 == week_day]
+                    found = [
+                        day
+                        for day in days
+                        if day.month == month and day.isoweekday() % 7 == week_day
+                    ]
                     for week in range(1, 6):
                         expected = (found[min(week, len(found)) - 1] - EPOCH).days
                         self.assertEqual(WeekDay(month, week, week_day).day_in(year), expected)
@@ -73,11 +90,14 @@ class Rules(unittest.TestCase):
             week_day = f'M{chance.randint(2, 11)}.{chance.randint(1, 5)}.{chance.randrange(7)}'
             hours = chance.choice([chance.randint(0, 24), chance.randint(-167, 167)])
             return f'{chance.choice([f"J{day}", day, week_day])}/{hours}:{chance.randrange(60):02}'
+
         tried = 0
         while tried < 200:
-            text = (f'STD{chance.randint(-23, 23)}:{chance.randrange(60):02}'
-                    f'DST{chance.choice(["", chance.randint(-23, 23)])}'
-                    f',{day_and_time()},{day_and_time()}')
+            text = (
+                f'STD{chance.randint(-23, 23)}:{chance.randrange(60):02}'
+                f'DST{chance.choice(["", chance.randint(-23, 23)])}'
+                f',{day_and_time()},{day_and_time()}'
+            )
             rule = Rule(text)
             changes = rule.changes(1980, 2030)
             if any(one[1] == next_one[1] for one, next_one in zip(changes, changes[1:])):
@@ -97,8 +117,7 @@ class Rules(unittest.TestCase):
             ('EST5EDT,0/0,J365/25', []),
             ('XXX3EDT4,0/0,J365/23', []),
             # Nuuk: on the Saturday before the last Sunday, at 22:00 and 23:00.
-            ('<-02>2<-01>,M3.5.0/-1,M10.5.0/0',
-             [('2025-03-30T01:00', 3), ('2025-10-26T01:00', 1)]),
+            ('<-02>2<-01>,M3.5.0/-1,M10.5.0/0', [('2025-03-30T01:00', 3), ('2025-10-26T01:00', 1)]),
             # Dublin: standard time is in summer.
             ('IST-1GMT0,M10.5.0,M3.5.0/1', [('2025-03-30T01:00', 0), ('2025-10-26T01:00', 2)]),
             # Gaza: at 02:00 of the Saturday after the fourth Thursday.
@@ -113,10 +132,22 @@ class Rules(unittest.TestCase):
             self.assertEqual(rule.type_at(at(text)), Type(-4 * 3600, True, 'EDT'))
 
     def test_other_strings_are_refused(self):
-        for text in ['A3', 'EST', 'EST25', 'EST5EDT', 'EST5EDT,M3.2.0', 'EST5EDT,M13.2.0,M11.1.0',
-                     'EST5EDT,M3.0.0,M11.1.0', 'EST5EDT,M3.2.7,M11.1.0', 'EST5EDT,J0,J365',
-                     'EST5EDT,366,1', 'EST5EDT,M3.2.0/168,M11.1.0', 'EST5EDT,M3.2.0,M11.1.0x',
-                     '<E>5', 'EST5EDT,M3.2.0/2:60,M11.1.0']:
+        for text in [
+            'A3',
+            'EST',
+            'EST25',
+            'EST5EDT',
+            'EST5EDT,M3.2.0',
+            'EST5EDT,M13.2.0,M11.1.0',
+            'EST5EDT,M3.0.0,M11.1.0',
+            'EST5EDT,M3.2.7,M11.1.0',
+            'EST5EDT,J0,J365',
+            'EST5EDT,366,1',
+            'EST5EDT,M3.2.0/168,M11.1.0',
+            'EST5EDT,M3.2.0,M11.1.0x',
+            '<E>5',
+            'EST5EDT,M3.2.0/2:60,M11.1.0',
+        ]:
             with self.assertRaises(Refused, msg=text):
                 Rule(text)
         with self.assertRaises(Refused):
@@ -146,17 +177,23 @@ class Tables(unittest.TestCase):
                 with self.assertRaises(Refused):
                     count_to_keep(table, types, rule)
                 continue
-            instants = sorted({instant + beside for instant, _ in table + rule.changes(1995, 2007)
-                               for beside in (-1, 0, 1)})
+            instants = sorted(
+                {
+                    instant + beside
+                    for instant, _ in table + rule.changes(1995, 2007)
+                    for beside in (-1, 0, 1)
+                }
+            )
             by_rule = {instant: rule.type_at(instant) for instant in instants}
 
             def clock(count):
                 shown = [types[0]] * sum(instant < table[0][0] for instant in instants)
-                for instant in instants[len(shown):]:
+                for instant in instants[len(shown) :]:
                     past = [index for start, index in table if start <= instant]
                     follows = instant >= table[count - 1][0]
                     shown.append(by_rule[instant] if follows else types[past[-1]])
                 return shown
+
             same = [count for count in range(1, len(table)) if clock(count) == clock(len(table))]
             self.assertEqual(count_to_keep(table, types, rule), min(same, default=len(table)))
 
@@ -173,8 +210,8 @@ class Tables(unittest.TestCase):
 
 class Files(unittest.TestCase):
     def test_a_file_gives_its_zone(self):
-        zone = read_zone(file_of('CET-1CEST,M3.5.0,M10.5.0/3', [0, 100, 2 ** 31 - 1]))
-        self.assertEqual(zone.table, ((0, 1), (100, 0), (2 ** 31 - 1, 1)))
+        zone = read_zone(file_of('CET-1CEST,M3.5.0,M10.5.0/3', [0, 100, 2**31 - 1]))
+        self.assertEqual(zone.table, ((0, 1), (100, 0), (2**31 - 1, 1)))
         self.assertEqual(zone.types, (Type(3600, False, 'CET'), Type(7200, True, 'CEST')))
         self.assertEqual(zone.footer, 'CET-1CEST,M3.5.0,M10.5.0/3')
 
@@ -182,7 +219,7 @@ class Files(unittest.TestCase):
         whole = file_of('CET-1CEST,M3.5.0,M10.5.0/3', [0])
         self.assertTrue(read_zone(whole))
         empty = struct.pack('>4sc15x6L', b'TZif', b'2', 0, 0, 0, 0, 0, 0)
-        slim = empty + whole[whole.index(b'TZif', 4):]
+        slim = empty + whole[whole.index(b'TZif', 4) :]
         first = file_of('UTC0', version=b'\0')
         for data in (slim, first, file_of('UTC0', leaps=1), whole[:-1], whole + b'\n'):
             with self.assertRaises(Refused):
@@ -219,8 +256,9 @@ class Files(unittest.TestCase):
 class Generate(unittest.TestCase):
     def generate(self, *arguments):
         program = pathlib.Path(__file__).resolve().with_name('generate')
-        return subprocess.run([sys.executable, '-B', program, *arguments], capture_output=True,
-                              text=True)
+        return subprocess.run(
+            [sys.executable, '-B', program, *arguments], capture_output=True, text=True
+        )
 
     def test_files_that_a_database_does_not_give_are_named(self):
         with tempfile.TemporaryDirectory() as folder:

@@ -36,7 +36,9 @@ class Beside(unittest.TestCase):
         source, answered, count = random.Random(package), {}, 0
         for name in NAMES:
             zones = ZoneInfo(name), zoneinfo.ZoneInfo(name)
-            times = [EPOCH + source.randrange(-(10**9), 4 * 10**9) * SECOND for _ in range(many)]
+            times = [
+                EPOCH + source.randrange(-(10**9), 4 * 10**9) * SECOND for _ in range(many)
+            ]
             for time in NEAR + times:
                 for kind, use in uses_of(time).items():
                     found, expected = (answer(use, zone) for zone in zones)

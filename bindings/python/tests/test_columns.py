@@ -152,7 +152,11 @@ class Buffers(unittest.TestCase):
             native.cast("@q"),
             memoryview(array("q", [1, *times, 1]))[1:4],
             (ctypes.c_int64 * 3)(*times),
-            *([native.cast("n"), (ctypes.c_ssize_t * 3)(*times)] if sys.maxsize == 2**63 - 1 else []),
+            *(
+                [native.cast("n"), (ctypes.c_ssize_t * 3)(*times)]
+                if sys.maxsize == 2**63 - 1
+                else []
+            ),
             *([native.cast("l"), array("l", times)] if array("l").itemsize == 8 else []),
         ):
             with self.subTest(memoryview(column).format):
@@ -166,7 +170,12 @@ class Buffers(unittest.TestCase):
 
     def test_lists_and_other_widths(self):
         expected = array("i", [3600, 3600]), array("q", [-3600, -3590])
-        columns = [[0, 10], (0, 10), range(0, 20, 10), *(array(typecode, [0, 10]) for typecode in "bBhHiIlLqQ")]
+        columns = [
+            [0, 10],
+            (0, 10),
+            range(0, 20, 10),
+            *(array(typecode, [0, 10]) for typecode in "bBhHiIlLqQ"),
+        ]
         for column in columns:
             self.assertEqual(ZONES[0].offsets(column), expected[0], column)
             self.assertEqual(ZONES[0].instants(column), expected[1], column)

@@ -55,7 +55,10 @@ def of_columns(utc):
 
     def python(zone):
         times = shown(zone).to_pydatetime()
-        return [(time.replace(tzinfo=None), time.fold, time.utcoffset(), time.tzname()) for time in times]
+        return [
+            (time.replace(tzinfo=None), time.fold, time.utcoffset(), time.tzname())
+            for time in times
+        ]
 
     uses = {
         "tz_convert, texts": lambda zone: texts(shown(zone)),

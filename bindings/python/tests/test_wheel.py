@@ -49,7 +49,14 @@ class Wheel(unittest.TestCase):
                 files = {file: archive.read(file) for file in archive.namelist()}
         info = name.split(f"-{tag}")[0] + ".dist-info"
         about = ("METADATA", "WHEEL", "RECORD", "LICENSE-MIT", "LICENSE-APACHE", "NOTICE")
-        sources = ("__init__.py", "_arrays.py", "_columns.py", "_library.py", "_structures.py", "_zone.py")
+        sources = (
+            "__init__.py",
+            "_arrays.py",
+            "_columns.py",
+            "_library.py",
+            "_structures.py",
+            "_zone.py",
+        )
         module = (*sources, "py.typed", LIBRARY, *extra)
         expected = {*(f"tz/{file}" for file in module), *(f"{info}/{file}" for file in about)}
         self.assertEqual(set(files), expected)

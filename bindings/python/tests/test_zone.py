@@ -314,11 +314,13 @@ class Times(unittest.TestCase):
             for local in (source.randrange(-90000, 90000) for _ in range(100)):
                 # The places of the types that show it, or if none does those beside its jumps.
                 shown = [
-                    place for place, (first, end, offset) in enumerate(spans)
+                    place
+                    for place, (first, end, offset) in enumerate(spans)
                     if first <= local - offset < end
                 ]
                 jumps = [
-                    place for place, (first, _, offset) in enumerate(spans)
+                    place
+                    for place, (first, _, offset) in enumerate(spans)
                     if place and first + offsets[place - 1] <= local < first + offset
                 ]
                 low, high = (shown[0], shown[-1]) if shown else (jumps[0] - 1, jumps[-1])

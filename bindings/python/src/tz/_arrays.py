@@ -12,7 +12,12 @@ from . import _columns, _library
 from ._library import OK, TzError, check
 from ._structures import DateTime, LocalTime, Zone
 
-_TICKS = {"s": 1, "ms": 10**3, "us": 10**6, "ns": 10**9}  # of the units of datetime64, in a second
+_TICKS = {
+    "s": 1,
+    "ms": 10**3,
+    "us": 10**6,
+    "ns": 10**9,
+}  # of the units of datetime64, in a second
 _NAT, _GREATEST = -(1 << 63), (1 << 63) - 1
 _INTEGER_CODES = "bBhHiIlLqQ"
 _OUT_OF_RANGE = 1

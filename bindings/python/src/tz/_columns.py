@@ -16,9 +16,7 @@ _ORDER = "[@=<]?" if sys.byteorder == "little" else "[@=>!]?"
 # before the last one; after `=` numpy has none there.
 _BYTES_OF_A_TIME = "month", "month_day", "hour", "minute", "second"
 _BYTE_FIELDS = "".join(rf"{_ORDER}B:{name}:" for name in _BYTES_OF_A_TIME)
-_FIELDS = (
-    rf"T{{{_ORDER}[il]:year:{_BYTE_FIELDS}((3x|xxx){_ORDER}|(?!=){_ORDER})[IL]:nanoseconds:}}"
-)
+_FIELDS = rf"T{{{_ORDER}[il]:year:{_BYTE_FIELDS}((3x|xxx){_ORDER}|(?!=){_ORDER})[IL]:nanoseconds:}}"
 _INT64, _INT32 = "64-bit signed integers", "32-bit signed integers"
 _UINT32, _BYTES = "32-bit unsigned integers", "bytes"
 # What columns hold: its formats, its size and its alignment.

@@ -152,7 +152,11 @@ class ZoneInfo(zoneinfo.ZoneInfo):
         """
         if not isinstance(text, str):
             raise TypeError(f"a TZ string is a str, not {type(text).__name__}")
-        string, rule, zone = text.encode(errors="surrogatepass"), _structures.Rule(), _structures.Zone()
+        string, rule, zone = (
+            text.encode(errors="surrogatepass"),
+            _structures.Rule(),
+            _structures.Zone(),
+        )
         check(_library.string_read(string, len(string), True, rule), repr(text))
         standard = rule.fixed if rule.kind == _library.FIXED else rule.alternate.types[0]
         held = [(_structures.LocalTimeType * 1)(standard), rule]
@@ -371,7 +375,10 @@ class ZoneInfo(zoneinfo.ZoneInfo):
 
     def _only_span(self) -> Optional[_Span]:
         """The span of a clock that never changes, which a time without a date has."""
-        if _library.following(self._zone, _LEAST_INSTANT, _structures.Change()) != _library.NO_CHANGE:
+        if (
+            _library.following(self._zone, _LEAST_INSTANT, _structures.Change())
+            != _library.NO_CHANGE
+        ):
             return None
         # A clock may begin late: after 1970, or after all that a datetime can be.
         segment = _structures.Segment()
