@@ -267,6 +267,7 @@ def sources_named():
         ALLOWED,
         CONST,
         INNER,
+        INLINE,
         dict.fromkeys(OTHER_EXAMPLES),
     )
     return sorted({path for table in tables for path in table if path.startswith("crates/")})
@@ -288,3 +289,5 @@ def named_in(file_name):
 CONST = named_in("constants.txt")
 # The items and imports of the Rust crate that its feature `inner` alone has.
 INNER = named_in("inner.txt")
+# The functions that get `#[inline]` in Rust.
+INLINE = named_in("inline.txt")

@@ -7,6 +7,7 @@ from . import erasure
 from .constant import INTEGERS, ends_operand, made_constant
 from .cut import without_ghosts
 from .exports import with_open_fields, with_open_modules
+from .inlining import with_inline
 from .lints import with_allowed_lints, with_arms_for_more, with_unread_parameters, without_imports
 from .methods import called_as_method, with_methods
 from .structure import functions_of, items_of
@@ -47,6 +48,7 @@ def erased(package, path, text):
     text = made_constant(path, text)
     text = with_methods(path, text)
     text = with_bounds(text)
+    text = with_inline(path, text)
     if package.features:
         text = with_must_use(path, text)
     if package.others:

@@ -93,6 +93,7 @@ pub const fn days_in_month(year: i32, month: u8) -> u8 {
 }
 
 /// Whether the month of a year has the day; a day up to the 28th is not looked up.
+#[inline]
 pub(crate) const fn has_month_day(year: i32, month: u8, month_day: u8) -> bool {
     if month_day <= 28 {
         return true;
@@ -125,6 +126,7 @@ pub const fn days_before_month(leap: bool, month: u8) -> u16 {
 }
 
 /// The days from March 1st to the first of a month.
+#[inline]
 const fn days_from_march(month: u8) -> u64 {
     let index = month as usize - 1;
     DAYS_FROM_MARCH[index] as u64
@@ -132,6 +134,7 @@ const fn days_from_march(month: u8) -> u64 {
 
 /// The year, moved as by `moved_year`, whose March 1st is the last one up to the month: the year
 /// itself from March on, and the one before in January and February.
+#[inline]
 const fn moved_march_year(year: i32, month: u8) -> u64 {
     moved_year(year) - (month < 3) as u64
 }
@@ -140,6 +143,7 @@ const fn moved_march_year(year: i32, month: u8) -> u64 {
 /// divides.
 ///
 /// A multiplication and a shift stand for a division by 100.
+#[inline]
 const fn days_of_march_years(years: u64) -> u64 {
     let centuries = 1_374_389_535 * years / 137_438_953_472;
     1461 * years / 4 - centuries + centuries / 4
@@ -147,6 +151,7 @@ const fn days_of_march_years(years: u64) -> u64 {
 
 /// The number of the day, where 1970-01-01 has the number 0. A day past the end of its month counts
 /// on.
+#[inline]
 #[must_use]
 pub const fn days_since_unix_epoch(year: i32, month: u8, month_day: u8) -> i64 {
     let days_before = days_of_march_years(moved_march_year(year, month)) + days_from_march(month);

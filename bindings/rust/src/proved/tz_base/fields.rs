@@ -39,12 +39,14 @@ const FIRST_READING: i64 = -67_768_100_567_971_200;
 const LAST_READING: i64 = 67_767_976_233_532_799;
 
 /// Whether the reading is in a year of 32 bits.
+#[inline]
 #[must_use]
 pub const fn is_reading(reading: i64) -> bool {
     FIRST_READING <= reading && reading <= LAST_READING
 }
 
 /// The reading of a clock with this offset from UTC at a Unix time, if it is in a year of 32 bits.
+#[inline]
 #[must_use]
 pub const fn local_reading(unix_time: i64, ut_offset: i32) -> Option<i64> {
     // A sum that wraps is in no year of 32 bits, and nor is the true one.
@@ -85,6 +87,7 @@ impl Fields {
     ///
     /// The variant of the first field that is out of range, in the order of the fields, or else
     /// [`DateTimeError::InvalidMonthDay`] if the month does not have the day.
+    #[inline]
     pub const fn check(&self) -> Result<(), DateTimeError> {
         if self.month < 1 || self.month > 12 {
             return Err(DateTimeError::InvalidMonth);
@@ -112,6 +115,7 @@ impl Fields {
 
     /// The seconds from 1970-01-01 00:00:00 to the fields. Second 60 reads as the next minute's
     /// first second.
+    #[inline]
     #[must_use]
     pub const fn reading(&self) -> i64 {
         let second_of_day = 3600 * self.hour as u32 + 60 * self.minute as u32 + self.second as u32;
@@ -124,6 +128,7 @@ impl Fields {
     }
 
     /// The fields that a clock shows at the reading.
+    #[inline]
     #[must_use]
     pub const fn from_reading(reading: i64, nanoseconds: u32) -> Fields {
         let seconds = moved_seconds(reading);

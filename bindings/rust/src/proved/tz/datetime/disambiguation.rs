@@ -45,6 +45,7 @@ pub struct Ends<'a> {
 }
 
 /// A jump, if the local times before and after it are in the years of an `i32`.
+#[inline]
 fn jump_inside<'a>(
     unix_time: i64,
     before: &'a LocalTimeType,
@@ -60,6 +61,7 @@ fn jump_inside<'a>(
 }
 
 /// One entry alone.
+#[inline]
 fn alone<'a>(entry: Entry<'a>) -> FewEntries<'a> {
     match entry {
         Entry::Shown(unix_time, local_time_type) => FewEntries::Once(unix_time, local_time_type),
@@ -68,6 +70,7 @@ fn alone<'a>(entry: Entry<'a>) -> FewEntries<'a> {
 }
 
 /// Two entries.
+#[inline]
 fn both<'a>(first: Entry<'a>, last: Entry<'a>) -> FewEntries<'a> {
     match first {
         Entry::Shown(unix_time, before) => match last {
@@ -90,6 +93,7 @@ impl<'a> Ends<'a> {
     }
 
     /// Counts one more, which is the last.
+    #[inline]
     fn push(&mut self, entry: Entry<'a>) {
         // A reading has at most 2^33 entries, and where a `usize` has 32 bits memory has no room
         // for the transitions of 2^31, so the count never comes to its end.
@@ -99,6 +103,7 @@ impl<'a> Ends<'a> {
     }
 
     /// The entry that is meant, if there is one.
+    #[inline]
     fn meant(&self, disambiguation: Disambiguation) -> Option<Entry<'a>> {
         match disambiguation {
             Disambiguation::Compatible => self.shown.or(self.last),
@@ -112,6 +117,7 @@ impl<'a> Ends<'a> {
 
 impl<'a> Ends<'a> {
     /// The entries, if they are few.
+    #[inline]
     #[must_use]
     pub fn few(&self) -> FewEntries<'a> {
         let Some(first) = self.first else {
@@ -131,6 +137,7 @@ impl<'a> Ends<'a> {
 }
 
 impl<'a> EntryTaker<'a> for Ends<'a> {
+    #[inline]
     fn shown(&mut self, unix_time: i64, local_time_type: &'a LocalTimeType) -> Result<(), TzError> {
         let entry = Entry::Shown(unix_time, local_time_type);
         self.shown = self.shown.or(Some(entry));
@@ -138,6 +145,7 @@ impl<'a> EntryTaker<'a> for Ends<'a> {
         Ok(())
     }
 
+    #[inline]
     fn skipped(
         &mut self,
         unix_time: i64,
@@ -171,6 +179,7 @@ fn ends_by_walk<'a>(
 /// # Errors
 ///
 /// [`TzError::OutOfRange`] if a side of a jump is outside the years of an `i32`.
+#[inline]
 pub fn ends_by_types<'a>(
     reading: i64,
     zone: &ZoneData<'a>,
@@ -205,6 +214,7 @@ fn meant_by_walk<'a>(
 /// The entry that is meant of all that a reading has in its window if the clock has one type before
 /// an instant, and another from there on. It decides as `give_around` does, but makes no ends, so
 /// that it is small enough to be inlined.
+#[inline]
 fn meant_around<'a>(
     reading: i64,
     disambiguation: Disambiguation,
@@ -292,6 +302,7 @@ pub enum Meaning {
 }
 
 /// What fields mean in a zone.
+#[inline]
 fn meaning_in(fields: &Fields, zone: &ZoneData<'_>) -> Result<Meaning, TzError> {
     // For the proof, which bounds the entries by these offsets.
     let (_least, _greatest) = zone.offsets();
@@ -334,6 +345,7 @@ impl DateTime {
     ///
     /// Those of [`DateTime::find`] but `Memory`.
     #[allow(clippy::too_many_arguments)]
+    #[inline]
     pub fn meaning(
         year: i32,
         month: u8,
@@ -354,6 +366,7 @@ impl DateTime {
     /// # Errors
     ///
     /// [`TzError::OutOfRange`] as for [`DateTime::find`].
+    #[inline]
     pub fn meaning_local(
         local: UtcDateTime,
         time_zone_ref: TimeZoneRef<'_>,
@@ -392,6 +405,7 @@ pub enum Disambiguation {
 }
 
 /// The instant at which the clock is looked up for a jump over the fields.
+#[inline]
 fn lookup_instant(
     fields: &Fields,
     disambiguation: Disambiguation,
@@ -473,6 +487,7 @@ impl DateTime {
     /// - those of [`DateTime::find`] but `Memory`;
     /// - those of [`DateTime::from_timespec`] at that other instant, if the choice means a jump.
     #[allow(clippy::too_many_arguments)]
+    #[inline]
     pub fn find_one(
         year: i32,
         month: u8,
@@ -523,6 +538,7 @@ impl DateTime {
     /// # Errors
     ///
     /// Those of [`DateTime::find_one`] for fields that are valid.
+    #[inline]
     pub fn from_local(
         local: UtcDateTime,
         disambiguation: Disambiguation,

@@ -185,6 +185,7 @@ impl<'a> FoundDateTimeListRefMut<'a> {
 
     /// The earliest date time that was written; of a jump the side before it. `None` if nothing was
     /// written.
+    #[inline]
     #[must_use]
     pub const fn earliest(&self) -> Option<DateTime> {
         Some(
@@ -204,6 +205,7 @@ impl<'a> FoundDateTimeListRefMut<'a> {
 
     /// The latest date time that was written; of a jump the side after it. `None` if nothing was
     /// written.
+    #[inline]
     #[must_use]
     pub const fn latest(&self) -> Option<DateTime> {
         Some(
@@ -223,6 +225,7 @@ impl<'a> FoundDateTimeListRefMut<'a> {
 
     /// The date time, if exactly one was found and no jump, and there was a slot for it, and
     /// otherwise `None`.
+    #[inline]
     #[must_use]
     pub const fn unique(&self) -> Option<DateTime> {
         match *self.data() {

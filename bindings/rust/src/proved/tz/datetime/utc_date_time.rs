@@ -97,6 +97,7 @@ impl UtcDateTime {
     ///   the nanoseconds;
     /// - [`TzError::DateTime`] with the first field that is out of range, in the order of the
     ///   arguments, or else with `InvalidMonthDay` if the month does not have the day.
+    #[inline]
     pub const fn new(
         year: i32,
         month: u8,
@@ -117,6 +118,7 @@ impl UtcDateTime {
     }
 
     /// The date time with these fields, which have one.
+    #[inline]
     pub(crate) const fn of_fields(fields: Fields) -> Self {
         UtcDateTime {
             fields,
@@ -125,6 +127,7 @@ impl UtcDateTime {
     }
 
     /// The date time of a Unix time and nanoseconds, which have one.
+    #[inline]
     const fn at(unix_time: i64, nanoseconds: u32) -> Self {
         UtcDateTime {
             fields: Fields::from_reading(unix_time, nanoseconds),
@@ -139,6 +142,7 @@ impl UtcDateTime {
     /// - [`TzError::DateTime`] with [`DateTimeError::InvalidNanoseconds`] if there are 10^9
     ///   nanoseconds or more;
     /// - [`TzError::OutOfRange`] if the year does not fit an `i32`.
+    #[inline]
     pub const fn from_timespec(unix_time: i64, nanoseconds: u32) -> Result<Self, TzError> {
         if nanoseconds >= NANOSECONDS_PER_SECOND {
             return Err(TzError::DateTime(DateTimeError::InvalidNanoseconds));
@@ -306,6 +310,7 @@ impl UtcDateTime {
     ///     Ok(meetings)
     /// }
     /// ```
+    #[inline]
     #[must_use]
     pub const fn checked_add(&self, duration: Duration) -> Option<Self> {
         let moved = time_after(self.unix_time(), self.fields.nanoseconds, duration);
@@ -317,6 +322,7 @@ impl UtcDateTime {
     }
 
     /// The date time earlier by a duration, or `None` if that is before [`UtcDateTime::MIN`].
+    #[inline]
     #[must_use]
     pub const fn checked_sub(&self, duration: Duration) -> Option<Self> {
         let moved = time_before(self.unix_time(), self.fields.nanoseconds, duration);
@@ -448,6 +454,7 @@ const ALL_SECONDS: u64 = 135_536_076_801_503_999;
 
 /// The seconds with the whole ones of the nanoseconds, and the nanoseconds that remain, if the
 /// seconds are those of a UTC date time.
+#[inline]
 const fn carried(seconds: i64, nanoseconds: u32) -> Option<(i64, u32)> {
     let whole = seconds + (nanoseconds / NANOSECONDS_PER_SECOND) as i64;
     if !is_reading(whole) {
@@ -458,6 +465,7 @@ const fn carried(seconds: i64, nanoseconds: u32) -> Option<(i64, u32)> {
 
 /// The seconds and nanoseconds a duration after others, if the seconds are those of a UTC date
 /// time.
+#[inline]
 const fn time_after(seconds: i64, nanoseconds: u32, duration: Duration) -> Option<(i64, u32)> {
     let added = duration.as_secs();
     if added > ALL_SECONDS {
@@ -469,6 +477,7 @@ const fn time_after(seconds: i64, nanoseconds: u32, duration: Duration) -> Optio
 
 /// The seconds and nanoseconds a duration before others, if the seconds are those of a UTC date
 /// time.
+#[inline]
 const fn time_before(seconds: i64, nanoseconds: u32, duration: Duration) -> Option<(i64, u32)> {
     let taken = duration.as_secs();
     if taken > ALL_SECONDS {

@@ -43,6 +43,7 @@ pub struct RuleData {
 #[cfg(feature = "inner")]
 impl RuleData {
     /// The data of a rule, or of none.
+    #[inline]
     #[must_use]
     pub const fn of(rule: &Option<TransitionRule>) -> Self {
         match rule {
@@ -76,6 +77,7 @@ pub enum RuleRef<'a> {
 
 impl<'a> RuleRef<'a> {
     /// Lends a rule.
+    #[inline]
     #[must_use]
     pub const fn of(rule: &'a TransitionRule) -> RuleRef<'a> {
         match rule {
@@ -126,6 +128,7 @@ pub const fn segment_at<'a>(rule: RuleRef<'a>, unix_time: i64) -> RuleSegment<'a
 
 /// The type of the rule at an instant. An alternate rule has one in the UTC years that are two or
 /// more from both ends of `i32`.
+#[inline]
 pub const fn find_local_time_type<'a>(
     rule: RuleRef<'a>,
     unix_time: i64,

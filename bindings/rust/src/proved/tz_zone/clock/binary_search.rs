@@ -19,6 +19,7 @@ const LEAST_GUESSED: usize = 9;
 const MOST_GUESSED: usize = 1024;
 
 /// The greatest power of two up to a number.
+#[inline]
 const fn power_up_to(number: usize) -> usize {
     1 << number.ilog2()
 }
@@ -41,6 +42,7 @@ const fn position_after_look(
 
 /// Of twice `count` positions from `position` on, the first of the `count` among which the leap
 /// time's position is, by a look at the transition in the middle.
+#[inline]
 const fn half(
     view: &mut TransitionView<'_>,
     position: usize,
@@ -125,6 +127,7 @@ const fn first_by_time(view: &TransitionView<'_>, unix_leap_time: i64) -> usize 
 }
 
 /// Whether a leap time lies at one of three positions, by the transitions on either side of them.
+#[inline]
 const fn is_among_three(view: &TransitionView<'_>, position: usize, unix_leap_time: i64) -> bool {
     // By this read the proof knows that the sum fits.
     let _len = view.len();
@@ -134,6 +137,7 @@ const fn is_among_three(view: &TransitionView<'_>, position: usize, unix_leap_ti
 
 /// The later of two positions, if the transition before it is reached at a leap time, or else the
 /// earlier one, for a guess.
+#[inline]
 const fn position_after_guess(
     view: &TransitionView<'_>,
     position: usize,
@@ -148,6 +152,7 @@ const fn position_after_guess(
 }
 
 /// The position of a leap time among three.
+#[inline]
 const fn position_among_three(
     view: &TransitionView<'_>,
     position: usize,

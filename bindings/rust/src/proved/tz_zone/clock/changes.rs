@@ -20,6 +20,7 @@ use crate::proved::tz_zone::timezone::zone_data::ZoneData;
 
 /// The first change of a rule after an instant: that of a zone with the rule and without
 /// transitions.
+#[inline]
 const fn following_by_rule<'a>(zone: &ZoneData<'a>, unix_time: i64) -> Option<Change<'a>> {
     let rule = match zone.rule() {
         Some(value) => value,
@@ -50,6 +51,7 @@ const fn position_at_effect(zone: &ZoneData<'_>, index: usize, effect: i64) -> u
 /// The last position of the run of `position`: the transitions from `position` up to it are to one
 /// type, `local_time_type`. The position after all transitions is a run of its own: from there on
 /// the rule has the types.
+#[inline]
 const fn end_of_run(
     zone: &ZoneData<'_>,
     position: usize,
@@ -80,6 +82,7 @@ const fn first_position(zone: &ZoneData<'_>, unix_time: i64) -> Option<(i64, usi
 /// The change at the next transition after an instant that lies at a position, and the position
 /// after it, if there are no leap seconds, that transition is to another type, and it is not the
 /// last one. Mostly it is so, and then nothing is walked.
+#[inline]
 const fn change_at_next<'a>(
     zone: &ZoneData<'a>,
     _unix_time: i64,
@@ -101,6 +104,7 @@ const fn change_at_next<'a>(
 
 /// The first change of the clock after an instant that lies at a position, and the position after
 /// it.
+#[inline]
 const fn following_from<'a>(
     zone: &ZoneData<'a>,
     unix_time: i64,
@@ -134,6 +138,7 @@ const fn following_from<'a>(
 /// The change at the transition after a position, and the position after it, if the one before the
 /// position takes effect at the instant. That one compare shows that the instant lies there, since
 /// times rise.
+#[inline]
 #[must_use]
 pub const fn change_after_last<'a>(
     zone: &ZoneData<'a>,
@@ -184,6 +189,7 @@ pub const fn find_following<'a>(
 
 /// The last change of a rule up to an instant: that of a zone with the rule and without
 /// transitions.
+#[inline]
 const fn preceding_by_rule<'a>(zone: &ZoneData<'a>, last: i64) -> Option<Change<'a>> {
     let rule = match zone.rule() {
         Some(value) => value,
@@ -198,6 +204,7 @@ const fn preceding_by_rule<'a>(zone: &ZoneData<'a>, last: i64) -> Option<Change<
 
 /// The first position, from 1 on, of the run of `position`: the transitions from the one before it
 /// up to `position` are to one type, `local_time_type`.
+#[inline]
 const fn start_of_run(
     zone: &ZoneData<'_>,
     position: usize,
@@ -224,6 +231,7 @@ const fn last_position(zone: &ZoneData<'_>, unix_time: i64) -> Option<(i64, usiz
 
 /// The last change of the clock up to an instant that lies at a position, if it comes after all
 /// transitions. From the effect of the last transition on, the seam, the rule has the types.
+#[inline]
 const fn preceding_after_table<'a>(
     zone: &ZoneData<'a>,
     position: usize,
@@ -249,6 +257,7 @@ const fn preceding_after_table<'a>(
 
 /// The first position, from 1 on, of the run of a position. The position after all transitions is a
 /// run of its own: from there on the rule has the types.
+#[inline]
 const fn first_of_run(zone: &ZoneData<'_>, position: usize) -> usize {
     let transitions = zone.transitions;
     if position == transitions.len() {
@@ -260,6 +269,7 @@ const fn first_of_run(zone: &ZoneData<'_>, position: usize) -> usize {
 
 /// The first position of the run of a position, and the instant at which the transition before it
 /// takes effect.
+#[inline]
 const fn run_start(zone: &ZoneData<'_>, position: usize) -> (usize, i64) {
     let transitions = zone.transitions;
     let start = first_of_run(zone, position);
@@ -270,6 +280,7 @@ const fn run_start(zone: &ZoneData<'_>, position: usize) -> (usize, i64) {
 /// The change at the last transition before an instant, and the position before it, if the instant
 /// a second earlier lies at a position, there are no leap seconds, that transition is from another
 /// type, and it is not the last one of all. Mostly it is so, and then nothing is walked.
+#[inline]
 const fn change_at_last<'a>(
     zone: &ZoneData<'a>,
     _unix_time: i64,
@@ -295,6 +306,7 @@ const fn change_at_last<'a>(
 
 /// The change at the transition before a position, and the position before it, if the one after the
 /// position takes effect at the instant. Then the instant a second earlier lies there.
+#[inline]
 #[must_use]
 pub const fn change_before_next<'a>(
     zone: &ZoneData<'a>,
@@ -328,6 +340,7 @@ const fn position_before_effect(zone: &ZoneData<'_>, index: usize, effect: i64) 
 
 /// The last change of the clock before an instant, and the position before it. After `last`, which
 /// lies at `position`, there is none.
+#[inline]
 const fn preceding_from<'a>(
     zone: &ZoneData<'a>,
     _unix_time: i64,

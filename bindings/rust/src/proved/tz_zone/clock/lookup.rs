@@ -37,6 +37,7 @@ pub(super) const fn after_table<'a>(
 }
 
 /// The type at an instant from the last transition on.
+#[inline]
 pub(super) const fn type_from_last<'a>(
     zone: &ZoneData<'a>,
     unix_time: i64,
@@ -46,6 +47,7 @@ pub(super) const fn type_from_last<'a>(
 
 /// The last transition before a position. If there is none, one at the least leap time, to the
 /// first type.
+#[inline]
 pub(super) const fn before(view: &mut TransitionView<'_>, position: usize) -> Transition {
     if position == 0 {
         return Transition::new(i64::MIN, 0);
@@ -54,11 +56,13 @@ pub(super) const fn before(view: &mut TransitionView<'_>, position: usize) -> Tr
 }
 
 /// The type of a transition.
+#[inline]
 pub(super) const fn type_of<'a>(zone: &ZoneData<'a>, change: Transition) -> &'a LocalTimeType {
     &zone.local_time_types[change.local_time_type_index()]
 }
 
 /// The type of the last transition before a position, or the first type if there is none.
+#[inline]
 pub(super) const fn type_before<'a>(
     view: &mut TransitionView<'_>,
     zone: &ZoneData<'a>,
@@ -70,6 +74,7 @@ pub(super) const fn type_before<'a>(
 
 /// The type at an instant, from a position at which it lies, or from an earlier position whose type
 /// is the same.
+#[inline]
 pub(super) const fn type_at<'a>(
     zone: &ZoneData<'a>,
     position: usize,
@@ -88,6 +93,7 @@ pub(super) const fn type_at<'a>(
 
 /// Why there is no type from the last transition on, or in a zone without transitions: there is no
 /// rule, or it is not defined at the instant.
+#[inline]
 const fn fault_after(zone: &ZoneData<'_>) -> TzError {
     match zone.rule() {
         Some(_) => TzError::OutOfRange,

@@ -53,6 +53,7 @@ impl<'a> Change<'a> {
 }
 
 /// The change at an instant, by the types at the instant before and at it.
+#[inline]
 pub(super) const fn change_at<'a>(
     unix_time: i64,
     before: Option<&'a LocalTimeType>,
@@ -110,6 +111,7 @@ impl<'a> Segment<'a> {
 }
 
 /// The last instant before a truncated start.
+#[inline]
 const fn last_before_start(leap_seconds: &[LeapSecond], unix_time: i64) -> i64 {
     let Some(first) = first_begun(leap_seconds, unix_time) else {
         return i64::MAX;
@@ -118,11 +120,13 @@ const fn last_before_start(leap_seconds: &[LeapSecond], unix_time: i64) -> i64 {
 }
 
 /// The first instant from which on none has a leap time, because it would leave 64 bits.
+#[inline]
 const fn first_past(leap_seconds: &[LeapSecond], _unix_time: i64) -> i64 {
     last_instant(leap_seconds) + 1
 }
 
 /// The segment of instants that have no leap time.
+#[inline]
 const fn undefined_segment<'a>(leap_seconds: &[LeapSecond], unix_time: i64) -> Segment<'a> {
     if has_begun(leap_seconds, unix_time) {
         return Segment {
@@ -139,6 +143,7 @@ const fn undefined_segment<'a>(leap_seconds: &[LeapSecond], unix_time: i64) -> S
 }
 
 /// The segment around an instant at which the last transition is reached.
+#[inline]
 const fn segment_from_last<'a>(
     zone: &ZoneData<'a>,
     last: Transition,

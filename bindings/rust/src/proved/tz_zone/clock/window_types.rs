@@ -120,6 +120,7 @@ pub enum WindowTypes<'a> {
 
 /// The type that the clock has throughout, from one instant up to another, both from the last
 /// transition on or in a zone without transitions; `None` if it has none or several.
+#[inline]
 const fn type_through<'a>(
     zone: ZoneData<'a>,
     is_empty: bool,

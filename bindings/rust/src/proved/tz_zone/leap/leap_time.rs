@@ -30,6 +30,7 @@ pub(crate) const fn has_begun(leap_seconds: &[LeapSecond], unix_time: i64) -> bo
 
 /// The first instant from another one on that does not lie before a truncated start, if there is
 /// one.
+#[inline]
 pub(crate) const fn first_begun(leap_seconds: &[LeapSecond], unix_time: i64) -> Option<i64> {
     if has_begun(leap_seconds, unix_time) {
         return Some(unix_time);
@@ -222,6 +223,7 @@ pub(crate) const fn wide_effect(leap_seconds: &[LeapSecond], unix_leap_time: i64
 
 /// The effect of a leap time that is reached at some instant: then the effect is an instant, and
 /// fits 64 bits.
+#[inline]
 pub(crate) const fn effect_of_reached(leap_seconds: &[LeapSecond], unix_leap_time: i64) -> i64 {
     if leap_seconds.is_empty() {
         return unix_leap_time;
@@ -257,6 +259,7 @@ const fn effect_by_seconds(leap_seconds: &[LeapSecond], unix_leap_time: i64) -> 
 
 /// The instant at which a leap time takes effect, if it is reached at any. Mostly there are no leap
 /// seconds, and it is the leap time itself.
+#[inline]
 pub(crate) const fn effect_if_reached(
     leap_seconds: &[LeapSecond],
     unix_leap_time: i64,
@@ -277,6 +280,7 @@ const fn last_before_by_seconds(leap_seconds: &[LeapSecond], unix_leap_time: i64
 
 /// The last instant that has a leap time and at which `unix_leap_time` is not yet reached. Mostly
 /// there are no leap seconds, and it is the instant right before `unix_leap_time`.
+#[inline]
 pub(crate) const fn last_before(leap_seconds: &[LeapSecond], unix_leap_time: i64) -> i64 {
     if leap_seconds.is_empty() {
         return unix_leap_time - 1;

@@ -18,6 +18,7 @@ pub struct TransitionView<'a> {
 impl<'a> TransitionView<'a> {
     /// The view of these transitions for a caller that wants no count: a position may be guessed,
     /// by reads that are not counted.
+    #[inline]
     #[must_use]
     pub const fn new(transitions: &'a [Transition]) -> Self {
         TransitionView {
@@ -44,18 +45,21 @@ impl<'a> TransitionView<'a> {
     }
 
     /// The number of transitions.
+    #[inline]
     #[must_use]
     pub const fn len(&self) -> usize {
         self.transitions.len()
     }
 
     /// A look: the transition at an index.
+    #[inline]
     pub const fn look(&mut self, index: usize) -> Transition {
         self.looks = self.looks.saturating_add(1);
         self.transitions[index]
     }
 
     /// A view of the same transitions, at which no look has been taken.
+    #[inline]
     #[must_use]
     pub const fn fresh(&self) -> Self {
         TransitionView {
@@ -71,12 +75,14 @@ impl<'a> TransitionView<'a> {
     }
 
     /// Whether a position may be guessed.
+    #[inline]
     #[must_use]
     pub const fn may_guess(&self) -> bool {
         self.may_guess
     }
 
     /// The transition at an index, for a guess. No look is counted.
+    #[inline]
     #[must_use]
     pub const fn guessed_at(&self, index: usize) -> Transition {
         self.transitions[index]

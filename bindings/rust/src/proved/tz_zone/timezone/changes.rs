@@ -34,6 +34,7 @@ impl<'a> TimeZoneRef<'a> {
     ///     DateTime::from_timespec_and_local(unix_time, 0, *local_time_type)
     /// }
     /// ```
+    #[inline]
     #[must_use]
     pub const fn segment_at(&self, unix_time: i64) -> Segment<'a> {
         self.plain.segment_at(unix_time)
@@ -69,6 +70,7 @@ impl<'a> TimeZoneRef<'a> {
     ///     Ok(Some((shown, seconds)))
     /// }
     /// ```
+    #[inline]
     #[must_use]
     pub const fn following(&self, unix_time: i64) -> Option<Change<'a>> {
         self.plain.following(unix_time)
@@ -110,6 +112,7 @@ impl<'a> TimeZoneRef<'a> {
     ///     Some(now.abs_diff(change.unix_time()))
     /// }
     /// ```
+    #[inline]
     #[must_use]
     pub const fn preceding(&self, unix_time: i64) -> Option<Change<'a>> {
         self.plain.preceding(unix_time)
@@ -258,6 +261,7 @@ impl<'a> ChangesAfter<'a> {
 impl<'a> Iterator for ChangesAfter<'a> {
     type Item = Change<'a>;
 
+    #[inline]
     fn next(&mut self) -> Option<Change<'a>> {
         let (next, position) = self.zone.following_from(self.unix_time, self.position)?;
         self.unix_time = next.unix_time();
@@ -292,6 +296,7 @@ impl<'a> ChangesBefore<'a> {
 impl<'a> Iterator for ChangesBefore<'a> {
     type Item = Change<'a>;
 
+    #[inline]
     fn next(&mut self) -> Option<Change<'a>> {
         let (previous, position) = self.zone.preceding_from(self.unix_time, self.position)?;
         self.unix_time = previous.unix_time();

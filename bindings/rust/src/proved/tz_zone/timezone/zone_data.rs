@@ -31,6 +31,7 @@ pub struct ZoneData<'a> {
 }
 
 /// Lends a rule, if there is one.
+#[inline]
 pub(super) const fn lent(extra_rule: &Option<TransitionRule>) -> Option<RuleRef<'_>> {
     match extra_rule {
         Some(rule) => Some(RuleRef::of(rule)),
@@ -56,6 +57,7 @@ const fn rule_of<'a>(
 
 impl<'a> RuleSource<'a> {
     /// Lends the rule, if there is one.
+    #[inline]
     const fn lent(self) -> Option<RuleRef<'a>> {
         match self {
             RuleSource::Whole(extra_rule) => lent(extra_rule),
@@ -66,6 +68,7 @@ impl<'a> RuleSource<'a> {
 
 impl<'a> ZoneData<'a> {
     /// The zone with these parts, which are checked as `TimeZoneRef::new` checks them.
+    #[inline]
     pub const fn new(
         transitions: &'a [Transition],
         local_time_types: &'a [LocalTimeType],
@@ -109,6 +112,7 @@ impl<'a> ZoneData<'a> {
     }
 
     /// The transitions, in order.
+    #[inline]
     #[must_use]
     pub const fn transitions(&self) -> &'a [Transition] {
         self.transitions
@@ -116,6 +120,7 @@ impl<'a> ZoneData<'a> {
 
     /// The local time types, which the transitions name by their numbers.
     #[cfg(feature = "inner")]
+    #[inline]
     #[must_use]
     pub const fn local_time_types(&self) -> &'a [LocalTimeType] {
         self.local_time_types
@@ -123,18 +128,21 @@ impl<'a> ZoneData<'a> {
 
     /// The leap seconds, in order.
     #[cfg(feature = "inner")]
+    #[inline]
     #[must_use]
     pub const fn leap_seconds(&self) -> &'a [LeapSecond] {
         self.leap_seconds
     }
 
     /// The rule from the last transition on, lent.
+    #[inline]
     #[must_use]
     pub const fn rule(&self) -> Option<RuleRef<'a>> {
         self.rule.lent()
     }
 
     /// The least and the greatest offset of the types and of the rule.
+    #[inline]
     #[must_use]
     pub const fn offsets(&self) -> (i32, i32) {
         (self.least_offset, self.greatest_offset)
@@ -148,6 +156,7 @@ impl<'a> ZoneData<'a> {
     }
 
     /// The segment around an instant, as `TimeZoneRef::segment_at` answers it.
+    #[inline]
     #[must_use]
     pub const fn segment_at(&self, unix_time: i64) -> Segment<'a> {
         let mut view = TransitionView::new(self.transitions);
@@ -155,6 +164,7 @@ impl<'a> ZoneData<'a> {
     }
 
     /// The first change after an instant, as `TimeZoneRef::following` answers it.
+    #[inline]
     #[must_use]
     pub const fn following(&self, unix_time: i64) -> Option<Change<'a>> {
         let (change, _) = match find_following(self, unix_time) {
@@ -165,6 +175,7 @@ impl<'a> ZoneData<'a> {
     }
 
     /// The last change before an instant, as `TimeZoneRef::preceding` answers it.
+    #[inline]
     #[must_use]
     pub const fn preceding(&self, unix_time: i64) -> Option<Change<'a>> {
         let (change, _) = match find_preceding(self, unix_time) {
