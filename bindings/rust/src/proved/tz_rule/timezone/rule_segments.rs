@@ -125,7 +125,6 @@ impl AlternateData {
     }
 
     /// The segment around an instant, if the likely year determines it.
-    #[inline]
     const fn likely_segment(&self, unix_time: i64) -> Option<AlternateSegment> {
         let Some(segment) = self.near_segment(unix_time) else {
             return None;
@@ -166,13 +165,11 @@ impl AlternateData {
     }
 
     /// The type of daylight saving time, or that of standard time.
-    #[inline]
     pub(super) const fn type_by(&self, is_daylight: bool) -> &LocalTimeType {
         if is_daylight { self.dst() } else { self.std() }
     }
 
     /// The segment around an instant, with its type, as a segment of the rule.
-    #[inline]
     const fn rule_segment(&self, _unix_time: i64, segment: AlternateSegment) -> RuleSegment<'_> {
         RuleSegment {
             from: segment.from,
