@@ -209,9 +209,8 @@ OPEN_FIELDS = {
 
 # The lints that an item allows itself.
 ALLOWED = {
-    # A proof reads the field, and a zone lent by C has the variant.
+    # A proof reads the field.
     "crates/tz/src/datetime/find.rt": {"Refused": ("dead_code",)},
-    "crates/tz_zone/src/timezone/zone_data.rt": {"RuleSource": ("dead_code",)},
     "crates/tz/src/parse.rt": {"read_printed": ("clippy::manual_range_contains",)},
     "crates/tz/src/text_buffer.rt": {
         "TextBuffer::push_decimal": ("clippy::manual_range_contains",)

@@ -1,10 +1,11 @@
 -- What calls answer of local time types and rules.
-use Rattle.std.specs.Prelude.{◌≡◌, ℕ, ℤ, List, Bool, Option, Some, None, if◌then◌else◌}
+use Rattle.std.specs.Prelude.{◌≡◌, ℕ, ℤ, List, [], ◌∷◌, Bool, Option, Some, None, if◌then◌else◌}
 use Rattle.tz_rule.specs.Alternate.{AlternateTime, start_of, end_of, IsInRuleRange, IsConsistentRule, IsFirstRuleFault}
 use Rattle.tz_rule.specs.LocalTimeType.{LocalTimeType, IsLocalTimeType, IsFirstTypeFault}
 use Rattle.tz_rule.specs.Pairing.{IsConflict, IsInconsistent}
 use Rattle.tz_rule.specs.Rule.{IsRuleType}
 use Rattle.tz_rule.specs.declared.timezone.transition_rule.TransitionRule.{TransitionRule}
+use Rattle.tz_rule.specs.declared.timezone.transition_rule.TransitionRule.TheVariants.{Fixed, Alternate}
 use Rattle.tz_c.specs.Codes.{IsAnswerBy, IsAnswerOr, type_code, rule_code, no_rule, no_conflict}
 use Rattle.tz_c.specs.declared.zones.ConflictData.{ConflictData}
 
@@ -29,6 +30,13 @@ IsConflictAnswer r code written =
     (IsInRuleRange r × IsConflict (start_of r) (end_of r) written.first_year written.second_year
     written.distance)
     (¬ (IsInRuleRange r × IsInconsistent (start_of r) (end_of r)))
+
+-- the rule that two lists give: the first type of the one, or else the first alternate rule of the
+-- other
+abbrev pub rule_of_lists : List LocalTimeType → List AlternateTime → Option TransitionRule
+rule_of_lists (fixed ∷ _) _ = Some (Fixed fixed)
+rule_of_lists [] (rule ∷ _) = Some (Alternate rule)
+rule_of_lists [] [] = None
 
 -- the type of a rule at an instant is written, or it has none there, or there is no rule
 abbrev pub IsRuleTypeAnswer : Option TransitionRule → ℤ → ℕ → LocalTimeType → Type 0

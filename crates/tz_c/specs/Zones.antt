@@ -3,7 +3,7 @@ use Rattle.std.specs.Prelude.{◌≡◌, false, pos, Some, None, if◌then◌els
 use Rattle.tz_rule.specs.LocalTimeType.{plain_type}
 use Rattle.tz_zone.specs.Changes.{Segment, Change}
 use Rattle.tz_zone.specs.Table.{Zone, zone_with}
-use Rattle.tz_zone.specs.LentRules.{rule_of_lists}
+use Rattle.tz_c.specs.Rules.{rule_of_lists}
 use Rattle.tz_c.specs.declared.zones.PartsData.{PartsData}
 use Rattle.tz_c.specs.declared.zones.SegmentData.{SegmentData}
 use Rattle.tz_c.specs.declared.zones.ChangeData.{ChangeData}

@@ -4,7 +4,6 @@ ghost use Rattle.std.specs.Prelude.{◌≡◌, ◌≢◌, ◌≤◌, length, pos
 ghost use Rattle.tz_rule.specs.RuleData.{rule_given};
 ghost use Rattle.tz_rule.specs.declared.timezone.transition_rule.TransitionRule.{TransitionRule};
 ghost use Rattle.tz_zone.specs.FileSizes.{AreSizesOf};
-ghost use Rattle.tz_zone.specs.LentRules.{rule_of_lists};
 ghost use Rattle.tz_zone.specs.Settings.{local_time};
 ghost use Rattle.tz_zone.specs.Table.{Zone};
 ghost use Rattle.tz_zone.specs.TzFile.{IsFramed, IsTzFile};
@@ -15,6 +14,7 @@ ghost use Rattle.tz_zone.specs.ZoneNames.{IsZoneName};
 ghost use Rattle.tz.specs.PrintedText.{printed_text};
 ghost use Rattle.tz_c.specs.Codes.{IsAnswerOr, invalid_name, IsAnswer, IsAnswerBy, file_code};
 ghost use Rattle.tz_c.specs.Files.{GivesTextRule};
+ghost use Rattle.tz_c.specs.Rules.{rule_of_lists};
 ghost use Rattle.tz_c.specs.Settings.{IsSettingAnswer};
 ghost use Rattle.tz_c.specs.Tables.{IsOnlyReadAnswer, IsReadAnswer, zone_written};
 ghost use Rattle.tz_c.specs.Texts.{IsTextAnswer, IsRuleTextAnswer};

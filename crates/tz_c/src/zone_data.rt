@@ -5,8 +5,8 @@ ghost use Rattle.tz_zone.specs.Offsets.{AreEndOffsets};
 ghost use Rattle.tz_zone.specs.ValidZone.{IsSoundTable, IsSoundTable-prop, IsValidZone};
 ghost use Rattle.tz_c.specs.Zones.{zone_of_parts};
 
-use crate::zones::{OffsetsData, PartsData};
-use tz_zone::inner::{self, RuleSource};
+use crate::zones::{OffsetsData, PartsData, rule_of_lists};
+use tz_zone::inner;
 
 /// Parts that make a zone, and its offsets.
 #[repr(C)]
@@ -32,7 +32,7 @@ impl<'a> ZoneData<'a> {
             self.parts.transitions,
             self.parts.local_time_types,
             self.parts.leap_seconds,
-            RuleSource::Listed(self.parts.fixed, self.parts.alternate),
+            rule_of_lists(self.parts.fixed, self.parts.alternate),
             self.offsets.least,
             self.offsets.greatest,
         )

@@ -8,19 +8,18 @@ ghost use Rattle.tz_rule.specs.Alternate.{alternate_of};
 ghost use Rattle.tz_rule.specs.JulianDay.{IsJulianDay, IsZeroBasedDay};
 ghost use Rattle.tz_rule.specs.LocalTimeType.{type_of};
 ghost use Rattle.tz_rule.specs.MonthWeek.{IsMonthWeek, IsFirstMonthWeekFault, month_week};
-ghost use Rattle.tz_rule.specs.RuleRef.{rule_seen};
 ghost use Rattle.tz_zone.specs.Changes.{IsTrueSegment, IsFollowing, IsPreceding, HasNoFollowing};
 ghost use Rattle.tz_zone.specs.Changes.{HasNoPreceding};
 ghost use Rattle.tz_zone.specs.Clock.{IsClock, IsLookupFault};
 ghost use Rattle.tz_zone.specs.LeapTime.{IsLeapTime, IsLeapTimeRefused, IsEffect, IsEffectRefused};
-ghost use Rattle.tz_zone.specs.LentRules.{rule_of_lists, lent_rule};
+ghost use Rattle.tz_zone.specs.LentRules.{lent_rule};
 ghost use Rattle.tz_zone.specs.Offsets.{AreEndOffsets};
 ghost use Rattle.tz_zone.specs.TableChanges.{HasTableEnds};
 ghost use Rattle.tz_zone.specs.ValidZone.{IsValidZone, IsFirstZoneFault};
 ghost use Rattle.tz_c.specs.Codes.{IsAnswerBy, rule_code, IsAnswer, IsAnswerOr, no_change};
 ghost use Rattle.tz_c.specs.Indexes.{IsClockIndex, IsFirstIndex, Stands, rule_types};
 ghost use Rattle.tz_c.specs.Rules.{IsTypeAnswer, name_if, IsAlternateAnswer, IsConflictAnswer};
-ghost use Rattle.tz_c.specs.Rules.{IsRuleTypeAnswer};
+ghost use Rattle.tz_c.specs.Rules.{IsRuleTypeAnswer, rule_of_lists};
 ghost use Rattle.tz_c.specs.ZoneOfData.{zone_of_data};
 ghost use Rattle.tz_c.specs.Zones.{HasZerosWithoutType, zone_of_parts, segment_written};
 ghost use Rattle.tz_c.specs.Zones.{change_written};
@@ -33,7 +32,7 @@ use tz_rule::inner::{AlternateData, DayData, RuleRef, find_local_time_type};
 use tz_rule::timezone::{
     Julian0WithLeap, Julian1WithoutLeap, LocalTimeType, MonthWeekDay, RuleDay,
 };
-use tz_zone::inner::{self, RuleSource, effect, leap};
+use tz_zone::inner::{self, effect, leap};
 use tz_zone::timezone::{Change, LeapSecond, Segment, Transition};
 
 /// The local time type with these parts, as `LocalTimeType::new` makes it.
@@ -188,13 +187,13 @@ pub extern "C" fn tz_alternate_conflict(
     }
 }
 
-/// The rule of two lists that have one entry together, or none.
+/// The rule that two lists give: the first type of the one, or else the first alternate rule of the
+/// other.
 pub(crate) fn rule_of_lists<'a>(
     fixed: &'a [LocalTimeType],
     alternate: &'a [AlternateData],
 ) -> Option<RuleRef<'a>>
-    ensures { MatchOption result (rule_of_lists fixed.now alternate.now ≡ None)
-        (λ rule. rule_of_lists fixed.now alternate.now ≡ Some (rule_seen rule)) }
+    ensures { lent_rule result ≡ rule_of_lists fixed.now alternate.now }
 {
     if !fixed.is_empty() {
         return Some(RuleRef::Fixed(&fixed[0]));
@@ -320,7 +319,7 @@ pub extern "C" fn tz_zone_check(parts: &PartsData<'_>, out: &mut OffsetsData) ->
         parts.transitions,
         parts.local_time_types,
         parts.leap_seconds,
-        RuleSource::Listed(parts.fixed, parts.alternate),
+        rule_of_lists(parts.fixed, parts.alternate),
     ) {
         Ok(zone) => {
             let (least, greatest) = zone.offsets();

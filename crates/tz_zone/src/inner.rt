@@ -15,7 +15,7 @@ pub use crate::parse::tz_string::{DEFAULT_HOUR, DEFAULT_SAVING, parse_posix_tz};
 pub use crate::table::TransitionView;
 use crate::timezone::TimeZoneRef;
 pub use crate::timezone::files::{open_fault, read_to_end};
-pub use crate::timezone::zone_data::{RuleSource, ZoneData};
+pub use crate::timezone::zone_data::ZoneData;
 
 /// The zone's plain data.
 pub const fn plain<'a>(zone: &TimeZoneRef<'a>) -> ZoneData<'a>

@@ -4,24 +4,14 @@ ghost use Rattle.std.specs.Prelude.{◌≡◌};
 ghost use Rattle.tz_zone.specs.Offsets.{AreEndOffsets};
 ghost use Rattle.tz_zone.specs.Table.{zone_with};
 ghost use Rattle.tz_zone.specs.ValidZone.{IsSoundTable, IsSoundTable-prop, IsValidZone};
-ghost use Rattle.tz_zone.specs.LentRules.{lent_rule, rule_of_source, rule_of_lists};
+ghost use Rattle.tz_zone.specs.LentRules.{lent_rule};
 
 use super::zone_checks::{check_parts, offset_range};
 use super::{Change, LeapSecond, LocalTimeType, Segment, Transition, TransitionRule};
 use crate::clock::{self, find_following, find_preceding};
 use crate::table::TransitionView;
 use tz_base::error::TzError;
-use tz_rule::inner::{AlternateData, RuleRef};
-
-/// The rule of a zone as its owner keeps it. It is lent where the rule is needed, so that lending a
-/// zone tests nothing of it.
-#[derive(Clone, Copy)]
-pub enum RuleSource<'a> {
-    /// A rule, or none.
-    Whole(&'a Option<TransitionRule>),
-    /// The first fixed type, or else the first alternate rule.
-    Listed(&'a [LocalTimeType], &'a [AlternateData]),
-}
+use tz_rule::inner::RuleRef;
 
 /// A time zone as slices of plain data, and its rule.
 #[derive(Clone, Copy)]
@@ -29,19 +19,19 @@ pub struct ZoneData<'a> {
     pub(crate) transitions: &'a [Transition],
     pub(crate) local_time_types: &'a [LocalTimeType],
     pub(crate) leap_seconds: &'a [LeapSecond],
-    rule: RuleSource<'a>,
+    rule: Option<RuleRef<'a>>,
     least_offset: i32,
     greatest_offset: i32,
     ghost sound: { IsSoundTable
         (zone_with transitions.now local_time_types.now leap_seconds.now
-        (rule_of_source rule)) } by { IsSoundTable-prop
+        (lent_rule rule)) } by { IsSoundTable-prop
             (zone_with transitions.now local_time_types.now leap_seconds.now
-            (rule_of_source rule)) },
+            (lent_rule rule)) },
     ghost valid: { ∥ IsValidZone (zone_with transitions.now local_time_types.now leap_seconds.now
-        (rule_of_source rule)) ∥₁ },
+        (lent_rule rule)) ∥₁ },
     ghost offsets: { ∥ AreEndOffsets
         (zone_with transitions.now local_time_types.now leap_seconds.now
-        (rule_of_source rule)) least_offset greatest_offset ∥₁ },
+        (lent_rule rule)) least_offset greatest_offset ∥₁ },
 }
 
 /// Lends a rule, if there is one.
@@ -54,33 +44,6 @@ pub(super) const fn lent(extra_rule: &Option<TransitionRule>) -> Option<RuleRef<
     }
 }
 
-/// The rule that two lists give: the first type of the one, or else the first alternate rule of the
-/// other.
-#[inline(always)]
-fn rule_of<'a>(fixed: &'a [LocalTimeType], alternate: &'a [AlternateData]) -> Option<RuleRef<'a>>
-    ensures { lent_rule result ≡ rule_of_lists fixed.entry.now alternate.entry.now }
-{
-    if let Some(local_time_type) = fixed.first() {
-        return Some(RuleRef::Fixed(local_time_type));
-    }
-    match alternate.first() {
-        Some(rule) => Some(RuleRef::Alternate(rule)),
-        None => None,
-    }
-}
-
-impl<'a> RuleSource<'a> {
-    /// Lends the rule, if there is one.
-    fn lent(self) -> Option<RuleRef<'a>>
-        ensures { lent_rule result ≡ rule_of_source self.entry }
-    {
-        match self {
-            RuleSource::Whole(extra_rule) => lent(extra_rule),
-            RuleSource::Listed(fixed, alternate) => rule_of(fixed, alternate),
-        }
-    }
-}
-
 impl<'a> ZoneData<'a> {
     ghost use Rattle.std.specs.Prelude.{◌≡◌, ◌≤ℤ◌, IfOk, IfErr, OnOk, MatchOption};
     ghost use Rattle.tz_zone.specs.Changes.{segment_of, change_of, IsTrueSegment, IsFollowing, IsPreceding, HasNoFollowing, HasNoPreceding};
@@ -89,7 +52,7 @@ impl<'a> ZoneData<'a> {
     ghost use Rattle.tz_zone.specs.Table.{zone_with};
     ghost use Rattle.tz_zone.specs.TableChanges.{HasTableEnds};
     ghost use Rattle.tz_zone.specs.ValidZone.{IsSoundTable, IsValidZone, IsFirstZoneFault};
-    ghost use Rattle.tz_zone.specs.LentRules.{lent_rule, rule_of_source};
+    ghost use Rattle.tz_zone.specs.LentRules.{lent_rule};
     ghost use Rattle.tz_zone.specs.ZoneOfData.{zone_of_data};
 
     /// The zone with these parts, which are checked as `TimeZoneRef::new` checks them.
@@ -97,20 +60,19 @@ impl<'a> ZoneData<'a> {
         transitions: &'a [Transition],
         local_time_types: &'a [LocalTimeType],
         leap_seconds: &'a [LeapSecond],
-        rule: RuleSource<'a>,
+        rule: Option<RuleRef<'a>>,
     ) -> Result<Self, TzError>
         ensures parts { IfOk result (λ z. zone_of_data z
             ≡ zone_with transitions.now local_time_types.now
-            leap_seconds.now (rule_of_source rule.entry)) }
+            leap_seconds.now (lent_rule rule.entry)) }
         ensures ok { OnOk result (IsValidZone (zone_with transitions.now local_time_types.now
-            leap_seconds.now (rule_of_source rule.entry))) }
+            leap_seconds.now (lent_rule rule.entry))) }
         ensures err { IfErr result (IsFirstZoneFault
             (zone_with transitions.now local_time_types.now leap_seconds.now
-            (rule_of_source rule.entry))) }
+            (lent_rule rule.entry))) }
     {
-        let lent = rule.lent();
-        check_parts(transitions, local_time_types, leap_seconds, lent)?;
-        let (least_offset, greatest_offset) = offset_range(local_time_types, lent);
+        check_parts(transitions, local_time_types, leap_seconds, rule)?;
+        let (least_offset, greatest_offset) = offset_range(local_time_types, rule);
         Ok(ZoneData {
             transitions,
             local_time_types,
@@ -126,19 +88,19 @@ impl<'a> ZoneData<'a> {
         transitions: &'a [Transition],
         local_time_types: &'a [LocalTimeType],
         leap_seconds: &'a [LeapSecond],
-        rule: RuleSource<'a>,
+        rule: Option<RuleRef<'a>>,
         least_offset: i32,
         greatest_offset: i32,
     ) -> Self
         requires sound { IsSoundTable (zone_with
-            transitions.now local_time_types.now leap_seconds.now (rule_of_source rule)) }
+            transitions.now local_time_types.now leap_seconds.now (lent_rule rule)) }
         requires valid { ∥ IsValidZone (zone_with
-            transitions.now local_time_types.now leap_seconds.now (rule_of_source rule)) ∥₁ }
+            transitions.now local_time_types.now leap_seconds.now (lent_rule rule)) ∥₁ }
         requires offsets { ∥ AreEndOffsets (zone_with
-            transitions.now local_time_types.now leap_seconds.now (rule_of_source rule))
+            transitions.now local_time_types.now leap_seconds.now (lent_rule rule))
             least_offset greatest_offset ∥₁ }
         ensures { zone_of_data result ≡ zone_with
-            transitions.now local_time_types.now leap_seconds.now (rule_of_source rule.entry) }
+            transitions.now local_time_types.now leap_seconds.now (lent_rule rule.entry) }
     {
         ZoneData {
             transitions,
@@ -172,10 +134,10 @@ impl<'a> ZoneData<'a> {
     }
 
     /// The rule from the last transition on, lent.
-    pub fn rule(&self) -> Option<RuleRef<'a>>
+    pub const fn rule(&self) -> Option<RuleRef<'a>>
         ensures { lent_rule result ≡ (zone_of_data self.now).extra_rule }
     {
-        self.rule.lent()
+        self.rule
     }
 
     /// The least and the greatest offset of the types and of the rule.

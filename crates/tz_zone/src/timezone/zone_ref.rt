@@ -1,9 +1,9 @@
 //! Borrowed time zones.
 
 ghost use Rattle.std.specs.Prelude.{◌≡◌};
-ghost use Rattle.tz_zone.specs.LentRules.{rule_of_source};
+ghost use Rattle.tz_zone.specs.LentRules.{lent_rule};
 
-use super::zone_data::{RuleSource, ZoneData};
+use super::zone_data::{ZoneData, lent};
 use super::{LeapSecond, LocalTimeType, Transition, TransitionRule};
 use crate::clock;
 use crate::leap::table_checks::expiry;
@@ -20,7 +20,7 @@ pub struct TimeZoneRef<'a> {
     pub(crate) plain: ZoneData<'a>,
     // The rule that `plain` keeps, as `extra_rule` returns it.
     extra_rule: &'a Option<TransitionRule>,
-    ghost same: { rule_of_source plain.rule ≡ extra_rule.now },
+    ghost same: { lent_rule plain.rule ≡ extra_rule.now },
 }
 
 impl<'a> PartialEq for TimeZoneRef<'a> {
@@ -109,7 +109,7 @@ impl<'a> TimeZoneRef<'a> {
         ensures err { IfErr result (IsFirstZoneFault
             (zone_with transitions.now local_time_types.now leap_seconds.now extra_rule.now)) }
     {
-        let rule = RuleSource::Whole(extra_rule);
+        let rule = lent(extra_rule);
         let plain = ZoneData::new(transitions, local_time_types, leap_seconds, rule)?;
         Ok(TimeZoneRef { plain, extra_rule })
     }
@@ -139,7 +139,7 @@ impl<'a> TimeZoneRef<'a> {
             transitions,
             local_time_types,
             leap_seconds,
-            RuleSource::Whole(extra_rule),
+            lent(extra_rule),
             least_offset,
             greatest_offset,
         );

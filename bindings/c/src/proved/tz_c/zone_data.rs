@@ -1,8 +1,8 @@
 // Generated from crates/tz_c/src/zone_data.rt by bindings/erase: its contracts are cut. Change that file instead.
 //! Zones as C passes them.
 
-use crate::proved::tz_c::zones::{OffsetsData, PartsData};
-use tz::proved::tz_zone::inner::{self, RuleSource};
+use crate::proved::tz_c::zones::{OffsetsData, PartsData, rule_of_lists};
+use tz::proved::tz_zone::inner;
 
 /// Parts that make a zone, and its offsets.
 #[repr(C)]
@@ -19,7 +19,7 @@ impl<'a> ZoneData<'a> {
             self.parts.transitions,
             self.parts.local_time_types,
             self.parts.leap_seconds,
-            RuleSource::Listed(self.parts.fixed, self.parts.alternate),
+            rule_of_lists(self.parts.fixed, self.parts.alternate),
             self.offsets.least,
             self.offsets.greatest,
         )

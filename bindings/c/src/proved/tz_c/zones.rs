@@ -9,7 +9,7 @@ use tz::proved::tz_rule::inner::{AlternateData, DayData, RuleRef, find_local_tim
 use tz::proved::tz_rule::timezone::{
     Julian0WithLeap, Julian1WithoutLeap, LocalTimeType, MonthWeekDay, RuleDay,
 };
-use tz::proved::tz_zone::inner::{self, RuleSource, effect, leap};
+use tz::proved::tz_zone::inner::{self, effect, leap};
 use tz::proved::tz_zone::timezone::{Change, LeapSecond, Segment, Transition};
 
 /// The local time type with these parts, as `LocalTimeType::new` makes it.
@@ -135,7 +135,8 @@ pub fn tz_alternate_conflict(
     }
 }
 
-/// The rule of two lists that have one entry together, or none.
+/// The rule that two lists give: the first type of the one, or else the first alternate rule of the
+/// other.
 pub(crate) fn rule_of_lists<'a>(
     fixed: &'a [LocalTimeType],
     alternate: &'a [AlternateData],
@@ -246,7 +247,7 @@ pub fn tz_zone_check(parts: &PartsData<'_>, out: &mut OffsetsData) -> u32 {
         parts.transitions,
         parts.local_time_types,
         parts.leap_seconds,
-        RuleSource::Listed(parts.fixed, parts.alternate),
+        rule_of_lists(parts.fixed, parts.alternate),
     ) {
         Ok(zone) => {
             let (least, greatest) = zone.offsets();

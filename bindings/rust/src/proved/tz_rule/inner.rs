@@ -2,6 +2,7 @@
 //! For the crates above and their tests, and not part of the public API: references to rules and
 //! what is asked of them, rules as plain data, and the parts of UTC's zone.
 
+#[cfg(feature = "inner")]
 pub use crate::proved::tz_rule::timezone::alternate_time::AlternateData;
 #[cfg(feature = "inner")]
 pub use crate::proved::tz_rule::timezone::rule_changes::RuleChange;

@@ -19,8 +19,6 @@ pub use crate::proved::tz_zone::table::TransitionView;
 use crate::proved::tz_zone::timezone::TimeZoneRef;
 #[cfg(all(feature = "std", feature = "inner"))]
 pub use crate::proved::tz_zone::timezone::files::{open_fault, read_to_end};
-#[cfg(feature = "inner")]
-pub use crate::proved::tz_zone::timezone::zone_data::RuleSource;
 pub use crate::proved::tz_zone::timezone::zone_data::ZoneData;
 
 /// The zone's plain data.

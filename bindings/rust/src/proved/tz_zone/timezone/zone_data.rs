@@ -4,20 +4,9 @@
 use super::zone_checks::{check_parts, offset_range};
 use super::{Change, LeapSecond, LocalTimeType, Segment, Transition, TransitionRule};
 use crate::proved::tz_base::error::TzError;
-use crate::proved::tz_rule::inner::{AlternateData, RuleRef};
+use crate::proved::tz_rule::inner::RuleRef;
 use crate::proved::tz_zone::clock::{self, find_following, find_preceding};
 use crate::proved::tz_zone::table::TransitionView;
-
-/// The rule of a zone as its owner keeps it. It is lent where the rule is needed, so that lending a
-/// zone tests nothing of it.
-#[allow(dead_code)]
-#[derive(Clone, Copy)]
-pub enum RuleSource<'a> {
-    /// A rule, or none.
-    Whole(&'a Option<TransitionRule>),
-    /// The first fixed type, or else the first alternate rule.
-    Listed(&'a [LocalTimeType], &'a [AlternateData]),
-}
 
 /// A time zone as slices of plain data, and its rule.
 #[derive(Clone, Copy)]
@@ -25,7 +14,7 @@ pub struct ZoneData<'a> {
     pub(crate) transitions: &'a [Transition],
     pub(crate) local_time_types: &'a [LocalTimeType],
     pub(crate) leap_seconds: &'a [LeapSecond],
-    rule: RuleSource<'a>,
+    rule: Option<RuleRef<'a>>,
     least_offset: i32,
     greatest_offset: i32,
 }
@@ -39,33 +28,6 @@ pub(super) const fn lent(extra_rule: &Option<TransitionRule>) -> Option<RuleRef<
     }
 }
 
-/// The rule that two lists give: the first type of the one, or else the first alternate rule of the
-/// other.
-#[inline(always)]
-const fn rule_of<'a>(
-    fixed: &'a [LocalTimeType],
-    alternate: &'a [AlternateData],
-) -> Option<RuleRef<'a>> {
-    if let Some(local_time_type) = fixed.first() {
-        return Some(RuleRef::Fixed(local_time_type));
-    }
-    match alternate.first() {
-        Some(rule) => Some(RuleRef::Alternate(rule)),
-        None => None,
-    }
-}
-
-impl<'a> RuleSource<'a> {
-    /// Lends the rule, if there is one.
-    #[inline]
-    const fn lent(self) -> Option<RuleRef<'a>> {
-        match self {
-            RuleSource::Whole(extra_rule) => lent(extra_rule),
-            RuleSource::Listed(fixed, alternate) => rule_of(fixed, alternate),
-        }
-    }
-}
-
 impl<'a> ZoneData<'a> {
     /// The zone with these parts, which are checked as `TimeZoneRef::new` checks them.
     #[inline]
@@ -73,14 +35,13 @@ impl<'a> ZoneData<'a> {
         transitions: &'a [Transition],
         local_time_types: &'a [LocalTimeType],
         leap_seconds: &'a [LeapSecond],
-        rule: RuleSource<'a>,
+        rule: Option<RuleRef<'a>>,
     ) -> Result<Self, TzError> {
-        let lent = rule.lent();
-        match check_parts(transitions, local_time_types, leap_seconds, lent) {
+        match check_parts(transitions, local_time_types, leap_seconds, rule) {
             Ok(value) => value,
             Err(error) => return Err(error),
         };
-        let (least_offset, greatest_offset) = offset_range(local_time_types, lent);
+        let (least_offset, greatest_offset) = offset_range(local_time_types, rule);
         Ok(ZoneData {
             transitions,
             local_time_types,
@@ -97,7 +58,7 @@ impl<'a> ZoneData<'a> {
         transitions: &'a [Transition],
         local_time_types: &'a [LocalTimeType],
         leap_seconds: &'a [LeapSecond],
-        rule: RuleSource<'a>,
+        rule: Option<RuleRef<'a>>,
         least_offset: i32,
         greatest_offset: i32,
     ) -> Self {
@@ -138,7 +99,7 @@ impl<'a> ZoneData<'a> {
     #[inline]
     #[must_use]
     pub const fn rule(&self) -> Option<RuleRef<'a>> {
-        self.rule.lent()
+        self.rule
     }
 
     /// The least and the greatest offset of the types and of the rule.

@@ -1,7 +1,7 @@
 // Generated from crates/tz_zone/src/timezone/zone_ref.rt by bindings/erase: its contracts are cut. Change that file instead.
 //! Borrowed time zones.
 
-use super::zone_data::{RuleSource, ZoneData};
+use super::zone_data::{ZoneData, lent};
 use super::{LeapSecond, LocalTimeType, Transition, TransitionRule};
 use crate::proved::tz_base::error::TzError;
 use crate::proved::tz_zone::clock;
@@ -76,7 +76,7 @@ impl<'a> TimeZoneRef<'a> {
         leap_seconds: &'a [LeapSecond],
         extra_rule: &'a Option<TransitionRule>,
     ) -> Result<Self, TzError> {
-        let rule = RuleSource::Whole(extra_rule);
+        let rule = lent(extra_rule);
         let plain = match ZoneData::new(transitions, local_time_types, leap_seconds, rule) {
             Ok(value) => value,
             Err(error) => return Err(error),
@@ -97,7 +97,7 @@ impl<'a> TimeZoneRef<'a> {
             transitions,
             local_time_types,
             leap_seconds,
-            RuleSource::Whole(extra_rule),
+            lent(extra_rule),
             least_offset,
             greatest_offset,
         );
