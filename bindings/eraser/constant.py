@@ -24,7 +24,10 @@ def made_constant(path, text):
         return text
     edits = []
     for function in functions_of(path, text):
-        if EVERY in names and re.search(r"\bconst fn\b", text[function.head : function.end]):
+        if EVERY in names and (
+            re.search(r"\bconst fn\b", text[function.head : function.end])
+            or is_of_a_trait(text, function.head)
+        ):
             continue
         if EVERY not in names and function.name not in names:
             continue
@@ -42,6 +45,12 @@ def made_constant(path, text):
     if names - {EVERY}:
         raise Stop(f"{path}: there is no function {sorted(names)[0]}")
     return edited(text, edits)
+
+
+def is_of_a_trait(text, head):
+    """Whether a function stands in the impl of a trait, where none can be const."""
+    header = re.findall(r"^(?:impl\b.*|\})$", text[:head], re.MULTILINE)[-1:]
+    return bool(header) and " for " in header[0]
 
 
 def is_simple(tokens):

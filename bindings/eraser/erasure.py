@@ -59,7 +59,7 @@ STD = (
     (r"\buse anyhow::anyhow;", "use crate::shim::anyhow;"),
     (r"(?<![\w:])anyhow::Error\b", "crate::shim::anyhow::Error"),
     (r"\barrayvec::ArrayString\b", "crate::shim::ArrayString"),
-    (r"\bstd::(cmp|fmt|iter|num|ops|slice|str|time)\b", r"core::\1"),
+    (r"\bstd::(cmp|fmt|hash|iter|num|ops|slice|str|time)\b", r"core::\1"),
     (r"\buse std::\{fmt, str\};", "use core::{fmt, str};"),
 )
 

@@ -242,6 +242,9 @@ class Cuts(unittest.TestCase):
         self.addCleanup(erasure.CONST.pop, PATH)
         made = erased("fn one() {}\n\npub const fn two() {}\n")
         self.assertEqual(made.split(), "const fn one() {} pub const fn two() {}".split())
+        of_a_trait = "impl Hash for One {\n    fn hash(&self) -> u8 { self.two }\n}\n"
+        made = erased(of_a_trait + "\nimpl One {\n    fn two() {}\n}\n")
+        self.assertEqual(made.split(), (of_a_trait + " impl One { const fn two() {} }").split())
 
     def test_clauses_and_ghosts(self):
         text = (

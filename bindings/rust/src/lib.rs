@@ -126,12 +126,3 @@ pub use proved::tz_civil::{Date, WeekDate};
 pub use timezone::{Change, ChangesAfter, ChangesBefore, LocalTimeType, Segment, TimeZoneRef};
 #[cfg(feature = "alloc")]
 pub use timezone::{TimeZone, TimeZoneSettings};
-
-/// As [`ParsedDateTime::parse`] reads it.
-impl core::str::FromStr for ParsedDateTime {
-    type Err = ParseDateTimeError;
-
-    fn from_str(text: &str) -> Result<Self, Self::Err> {
-        ParsedDateTime::parse(text.as_bytes())
-    }
-}

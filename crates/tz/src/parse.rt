@@ -20,6 +20,7 @@ ghost use Rattle.tz.specs.PrintedText.{two_digits, nine_digits, offset_text, pri
 use crate::datetime::UtcDateTime;
 use crate::datetime::utc_date_time::is_past_the_end;
 use std::fmt;
+use std::str::FromStr;
 use thiserror::Error;
 use tz_base::calendar::days_in_month;
 use tz_base::fields::Fields;
@@ -411,6 +412,28 @@ fn read_date_time(text: &[u8]) -> Result<ParsedDateTime, Missing<'_>>
         local: UtcDateTime::of_fields(fields),
         ut_offset,
     })
+}
+
+impl FromStr for ParsedDateTime {
+    type Err = ParseDateTimeError;
+
+    ghost from_str_gives = { λ s r. IfOk r (λ p. IsDateTimeText s p)
+        × IfErr r (λ e. IsDateTimeTextFault s e) };
+
+    fn from_str(s: &str) -> Result<ParsedDateTime, ParseDateTimeError> {
+        ParsedDateTime::parse(s.as_bytes())
+    }
+}
+
+impl TryFrom<&str> for ParsedDateTime {
+    type Error = ParseDateTimeError;
+
+    ghost try_from_gives = { λ s r. IfOk r (λ p. IsDateTimeText s.now p)
+        × IfErr r (λ e. IsDateTimeTextFault s.now e) };
+
+    fn try_from(t: &str) -> Result<ParsedDateTime, ParseDateTimeError> {
+        ParsedDateTime::parse(t.as_bytes())
+    }
 }
 
 impl ParsedDateTime {

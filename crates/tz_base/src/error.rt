@@ -113,7 +113,7 @@ pub enum ParseDataError {
 }
 
 /// Why a string is not a TZ string.
-#[derive(Debug, Drop, PartialEq, Eq, Error)]
+#[derive(Clone, Debug, Drop, PartialEq, Eq, Error)]
 pub enum TzStringError {
     /// The bytes are not UTF-8. No call returns this, since only digits are converted.
     #[error(transparent)]
@@ -154,7 +154,7 @@ pub enum TzStringError {
 }
 
 /// Why bytes are not a TZif file.
-#[derive(Debug, Drop, PartialEq, Eq, Error)]
+#[derive(Clone, Debug, Drop, PartialEq, Eq, Error)]
 pub enum TzFileError {
     /// The footer is not UTF-8.
     #[error(transparent)]
@@ -189,7 +189,7 @@ pub enum TzFileError {
 }
 
 /// Any error but that of a file that cannot be read.
-#[derive(Debug, Drop, Error)]
+#[derive(Clone, Debug, Drop, PartialEq, Eq, Error)]
 pub enum TzError {
     /// The bytes are not a TZif file.
     #[error("invalid TZ file: {0}")]

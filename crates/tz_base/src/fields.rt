@@ -21,7 +21,7 @@ use crate::error::DateTimeError;
 
 /// The seven fields of a date time, in the order in which they are compared.
 #[repr(C)]
-#[derive(Clone, Copy, Debug, PartialEq, Eq, PartialOrd, Ord)]
+#[derive(Clone, Copy, Debug, PartialEq, Eq, PartialOrd, Ord, Hash)]
 pub struct Fields {
     /// The year; 0 is the year before 1.
     pub year: i32,

@@ -23,4 +23,5 @@ pub mod RuleChanges
 pub mod Same
 pub mod SameDay
 pub mod SameRule
+pub mod RuleHash
 pub mod RuleData

@@ -20,6 +20,7 @@ pub mod Changes
 pub mod ChangesInTurn
 pub mod Runs
 pub mod SameZone
+pub mod ZoneHash
 pub mod Bytes
 pub mod TzFile
 pub mod TzFileFault

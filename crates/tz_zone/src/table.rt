@@ -4,6 +4,7 @@ ghost use Rattle.std.specs.Prelude.{◌≡◌};
 
 mod transition_view;
 
+use std::hash::{Hash, Hasher};
 use std::marker::Model;
 pub use transition_view::TransitionView;
 
@@ -31,6 +32,21 @@ impl Model for Transition {
       local_time_type_index =
           t.type_index;
     } };
+}
+
+impl Hash for Transition {
+    ghost use Rattle.std.specs.Cmp.Rules.{hashing};
+    ghost use Rattle.std.proofs.Common.{rules};
+    ghost use Rattle.tz_zone.specs.ZoneHash.{transition_input};
+
+    ghost hash_input = { transition_input };
+
+    ghost respects_eq = { Prim.search (hashing, rules) };
+
+    fn hash<H: Hasher>(&self, state: &mut H) {
+        self.unix_leap_time.hash(state);
+        self.local_time_type_index.hash(state);
+    }
 }
 
 impl Transition {

@@ -12,7 +12,7 @@ use alloc::vec::{self, Vec};
 use core::{fmt, slice};
 
 /// The date times that a search found, by rising Unix time: the list that [`DateTime::find`] returns. It may be empty.
-#[derive(PartialEq)]
+#[derive(PartialEq, Eq)]
 pub struct FoundDateTimeList(FoundList<Global>);
 
 impl FoundDateTimeList {

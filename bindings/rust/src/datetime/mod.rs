@@ -6,7 +6,6 @@
 mod find;
 #[cfg(feature = "std")]
 mod system_time;
-mod traits;
 
 pub use crate::proved::tz::datetime::{
     DateTime, Disambiguation, FoundDateTimeKind, FoundDateTimeListRefMut, Meaning, UtcDateTime,

@@ -156,6 +156,8 @@ impl<T: PartialEq, A: Allocator> PartialEq for Vec<T, A> {
     }
 }
 
+impl<T: Eq, A: Allocator> Eq for Vec<T, A> {}
+
 impl<T: fmt::Debug, A: Allocator> fmt::Debug for Vec<T, A> {
     fn fmt(&self, f: &mut fmt::Formatter<'_>) -> fmt::Result {
         (**self).fmt(f)

@@ -10,13 +10,13 @@ use crate::error::TzError;
 use crate::error::timezone::LocalTimeTypeError;
 use crate::proved::tz_zone::timezone::TimeZone as Zone;
 use crate::shim::Vec as Items;
-use crate::shim::alloc::Global;
+use crate::shim::alloc::{AllocError, Global};
 use alloc::vec;
 use alloc::vec::Vec;
 use core::fmt;
 
 /// A time zone that owns its parts.
-#[derive(PartialEq)]
+#[derive(PartialEq, Eq, Hash)]
 pub struct TimeZone(Zone<Global>);
 
 impl TimeZone {
@@ -159,7 +159,27 @@ impl Clone for TimeZone {
     }
 }
 
-impl Eq for TimeZone {}
+/// Copies the parts of a borrowed zone: [`TzError::Memory`] if an allocation fails.
+impl TryFrom<TimeZoneRef<'_>> for TimeZone {
+    type Error = TzError;
+
+    fn try_from(zone: TimeZoneRef<'_>) -> Result<Self, TzError> {
+        TimeZone::new(
+            copied(zone.transitions())?,
+            copied(zone.local_time_types())?,
+            copied(zone.leap_seconds())?,
+            *zone.extra_rule(),
+        )
+    }
+}
+
+fn copied<T: Copy>(items: &[T]) -> Result<Vec<T>, AllocError> {
+    let mut copies = Vec::new();
+    let room = copies.try_reserve_exact(items.len());
+    room.map_err(|_| AllocError)?;
+    copies.extend_from_slice(items);
+    Ok(copies)
+}
 
 impl fmt::Debug for TimeZone {
     fn fmt(&self, f: &mut fmt::Formatter<'_>) -> fmt::Result {

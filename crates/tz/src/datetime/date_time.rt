@@ -12,6 +12,7 @@ use super::{FoundDateTimeKind, UtcDateTime};
 use crate::text_buffer::TextBuffer;
 use std::cmp::Ordering;
 use std::fmt;
+use std::hash::{Hash, Hasher};
 use std::marker::Model;
 use std::time::Duration;
 use tz_base::constants::NANOSECONDS_PER_SECOND;
@@ -75,6 +76,22 @@ impl Eq for DateTime {
     ghost use Rattle.std.proofs.Common.{rules};
 
     ghost laws = { Prim.search (comparing, rules) };
+}
+
+impl Hash for DateTime {
+    ghost use Rattle.std.specs.Prelude.{◌++◌};
+    ghost use Rattle.std.specs.Hash as fed;
+    ghost use Rattle.std.specs.Cmp.Rules.{hashing};
+    ghost use Rattle.std.proofs.Common.{rules};
+
+    ghost hash_input = { λ d. fed.i64 d.unix_time ++ fed.u32 d.fields.nanoseconds };
+
+    ghost respects_eq = { Prim.search (hashing, rules) };
+
+    fn hash<H: Hasher>(&self, state: &mut H) {
+        self.unix_time.hash(state);
+        self.fields.nanoseconds.hash(state);
+    }
 }
 
 impl PartialOrd for DateTime {

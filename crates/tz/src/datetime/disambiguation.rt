@@ -347,7 +347,7 @@ pub(super) fn meant_in<'a>(
 }
 
 /// What a local time means in a zone: the instants at which clocks show it, and the jumps over it.
-#[derive(Clone, Copy, Debug, PartialEq)]
+#[derive(Clone, Copy, Debug, PartialEq, Eq)]
 pub enum Meaning {
     /// Clocks never show it, and are not set forward over it. This is so if the zone has no clock
     /// then.
@@ -473,10 +473,11 @@ impl DateTime {
 /// If they do both, as when they are set back soon after, `Compatible` means the first instant at
 /// which they show it, `Earlier` and `Later` the first and the last entry of
 /// [`DateTime::find`](super::DateTime::find), and `Reject` none.
-#[derive(Clone, Copy, Debug, PartialEq, Eq)]
+#[derive(Clone, Copy, Debug, Default, Hash, PartialEq, Eq)]
 pub enum Disambiguation {
     /// The first instant at which clocks show it, or, in a gap, as much later as clocks are set
     /// forward: what calendars do. (RFC 5545, 3.3.5)
+    #[default]
     Compatible,
     /// The first entry: an instant at which clocks show it, or, in a gap, as much earlier as clocks
     /// are set forward.

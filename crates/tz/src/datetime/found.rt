@@ -8,7 +8,7 @@ use std::fmt;
 use tz_base::error::TzError;
 
 /// A found date time.
-#[derive(Clone, Copy, Debug, PartialEq)]
+#[derive(Clone, Copy, Debug, PartialEq, Eq)]
 pub enum FoundDateTimeKind {
     /// The clock shows the date time.
     Normal(DateTime),
@@ -46,7 +46,7 @@ impl FoundDateTimeKind {
 ///
 /// Lists are equal when their entries are, on whichever allocators.
 #[derive(Drop)]
-#[derive_where(PartialEq)]
+#[derive_where(PartialEq, Eq)]
 pub struct FoundDateTimeList<A: Allocator + Copy = Global> {
     pub(super) found: Vec<FoundDateTimeKind, A>,
 }

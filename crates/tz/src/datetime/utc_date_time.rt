@@ -24,7 +24,7 @@ use tz_zone::timezone::TimeZoneRef;
 /// although both have the same Unix time.
 #[repr(C)]
 #[derive(Clone, Copy)]
-#[derive_where(PartialEq, Eq, PartialOrd, Ord)]
+#[derive_where(PartialEq, Eq, PartialOrd, Ord, Hash)]
 pub struct UtcDateTime {
     fields: Fields,
     // The reading of the fields: sums and conversions need not work it out again.

@@ -13,6 +13,7 @@ use super::rule_day::DayData;
 use super::year_table::YearTable;
 use super::{LocalTimeType, RuleDay};
 use std::fmt;
+use std::hash::{Hash, Hasher};
 use std::marker::Model;
 use tz_base::error::TransitionRuleError;
 
@@ -302,6 +303,25 @@ impl Eq for AlternateTime {
     ghost use Rattle.tz_rule.specs.SameRule.{same_alternate, Decides-same_alternate};
 
     ghost laws = { IsEquivalence-from_equality same_alternate Decides-same_alternate };
+}
+
+impl Hash for AlternateTime {
+    ghost use Rattle.std.proofs.Common.{ap};
+    ghost use Rattle.tz_rule.specs.RuleHash.{alternate_input};
+    ghost use Rattle.tz_rule.specs.SameRule.{Decides-same_alternate};
+
+    ghost hash_input = { alternate_input };
+
+    ghost respects_eq = { λ a b h. ap alternate_input ((Decides-same_alternate a b).0 h) };
+
+    fn hash<H: Hasher>(&self, state: &mut H) {
+        self.std().hash(state);
+        self.dst().hash(state);
+        self.dst_start.hash(state);
+        self.dst_start_time().hash(state);
+        self.dst_end.hash(state);
+        self.dst_end_time().hash(state);
+    }
 }
 
 impl fmt::Debug for AlternateTime {

@@ -3,6 +3,7 @@
 ghost use Rattle.std.specs.Prelude.{◌≡◌, ℕ, ◌≤◌, ◌↔◌, OnOk, IfOk, IfErr, IsTrue};
 ghost use Rattle.tz_rule.specs.LocalTimeType.{IsFirstTypeFault, IsLocalTimeType, IsDesignationByte, plain_type, designation_text};
 
+use std::hash::{Hash, Hasher};
 use std::marker::Model;
 use std::{fmt, str};
 use tz_base::error::LocalTimeTypeError;
@@ -63,6 +64,22 @@ impl Eq for LocalTimeType {
     ghost use Rattle.tz_rule.specs.Same.{same_type, Decides-same_type, IsEquivalence-from_equality};
 
     ghost laws = { IsEquivalence-from_equality same_type Decides-same_type };
+}
+
+impl Hash for LocalTimeType {
+    ghost use Rattle.std.proofs.Common.{ap};
+    ghost use Rattle.tz_rule.specs.RuleHash.{type_input};
+    ghost use Rattle.tz_rule.specs.Same.{Decides-same_type};
+
+    ghost hash_input = { type_input };
+
+    ghost respects_eq = { λ a b h. ap type_input ((Decides-same_type a b).0 h) };
+
+    fn hash<H: Hasher>(&self, state: &mut H) {
+        self.ut_offset.hash(state);
+        self.is_dst.hash(state);
+        self.designation().hash(state);
+    }
 }
 
 impl fmt::Debug for LocalTimeType {

@@ -7,6 +7,7 @@ ghost use Rattle.tz_rule.specs.MonthWeek.{MonthWeek, IsMonthWeek, IsFirstMonthWe
 ghost use Rattle.tz_rule.specs.YearDays.{julian_year_day, nth_week_day as nth_week_day_of, year_day_of};
 ghost use Rattle.tz_rule.specs.ZeroRule.{zero_day};
 
+use std::hash::{Hash, Hasher};
 use std::marker::Model;
 use tz_base::calendar;
 use tz_base::error::TransitionRuleError;
@@ -51,7 +52,7 @@ const fn year_day_before(year_day: u16, least: u16) -> u16
 }
 
 /// The n-th of a year's days that are not February 29th, from 1 to 365. (POSIX.1-2017, 8.3: `Jn`.)
-#[derive(Clone, Copy, Debug, PartialEq, Eq)]
+#[derive(Clone, Copy, Debug, PartialEq, Eq, Hash)]
 pub struct Julian1WithoutLeap(pub(super) u16);
 
 impl Model for Julian1WithoutLeap {
@@ -107,7 +108,7 @@ impl Julian1WithoutLeap {
 
 /// The day n days after January 1st, from 0 to 365. In a year that is not leap 365 is the next
 /// January 1st. (POSIX.1-2017, 8.3: `n`.)
-#[derive(Clone, Copy, Debug, PartialEq, Eq)]
+#[derive(Clone, Copy, Debug, PartialEq, Eq, Hash)]
 pub struct Julian0WithLeap(pub(super) u16);
 
 impl Model for Julian0WithLeap {
@@ -152,7 +153,7 @@ impl Julian0WithLeap {
 
 /// The first, second, third, fourth or last (5) of a month's days with a given week day.
 /// (POSIX.1-2017, 8.3: `Mm.w.d`.)
-#[derive(Clone, Copy, Debug, PartialEq, Eq)]
+#[derive(Clone, Copy, Debug, PartialEq, Eq, Hash)]
 pub struct MonthWeekDay {
     pub(super) month: u8,
     pub(super) week: u8,
@@ -295,6 +296,33 @@ impl Eq for RuleDay {
     ghost use Rattle.tz_rule.specs.SameDay.{same_day, Decides-same_day};
 
     ghost laws = { IsEquivalence-from_equality same_day Decides-same_day };
+}
+
+impl Hash for RuleDay {
+    ghost use Rattle.std.proofs.Common.{ap};
+    ghost use Rattle.tz_rule.specs.RuleHash.{day_input};
+    ghost use Rattle.tz_rule.specs.SameDay.{Decides-same_day};
+
+    ghost hash_input = { day_input };
+
+    ghost respects_eq = { λ a b h. ap day_input ((Decides-same_day a b).0 h) };
+
+    fn hash<H: Hasher>(&self, state: &mut H) {
+        match self {
+            RuleDay::Julian1WithoutLeap(day) => {
+                state.write_u8(0);
+                day.hash(state);
+            }
+            RuleDay::Julian0WithLeap(day) => {
+                state.write_u8(1);
+                day.hash(state);
+            }
+            RuleDay::MonthWeekDay(day) => {
+                state.write_u8(2);
+                day.hash(state);
+            }
+        }
+    }
 }
 
 impl RuleDay {

@@ -11,6 +11,7 @@ ghost use Rattle.tz_rule.specs.RuleSegments.{IsRuleChange};
 use super::alternate_time::AlternateData;
 use super::rule_segments::RuleSegment;
 use super::{AlternateTime, LocalTimeType};
+use std::hash::{Hash, Hasher};
 use tz_base::error::TzError;
 
 /// The local time of a zone after its last transition.
@@ -46,6 +47,29 @@ impl Eq for TransitionRule {
     ghost use Rattle.tz_rule.specs.SameRule.{same_rule, Decides-same_rule};
 
     ghost laws = { IsEquivalence-from_equality same_rule Decides-same_rule };
+}
+
+impl Hash for TransitionRule {
+    ghost use Rattle.std.proofs.Common.{ap};
+    ghost use Rattle.tz_rule.specs.RuleHash.{rule_input};
+    ghost use Rattle.tz_rule.specs.SameRule.{Decides-same_rule};
+
+    ghost hash_input = { rule_input };
+
+    ghost respects_eq = { λ a b h. ap rule_input ((Decides-same_rule a b).0 h) };
+
+    fn hash<H: Hasher>(&self, state: &mut H) {
+        match self {
+            TransitionRule::Fixed(local_time_type) => {
+                state.write_u8(0);
+                local_time_type.hash(state);
+            }
+            TransitionRule::Alternate(rule) => {
+                state.write_u8(1);
+                rule.hash(state);
+            }
+        }
+    }
 }
 
 /// A rule, or none, in C's layout. What its kind does not use is zero.

@@ -23,7 +23,7 @@ use crate::timezone::zone_data::ZoneData;
 use tz_rule::timezone::LocalTimeType;
 
 /// A change of the clock of a zone, from one type to another.
-#[derive(Clone, Copy, Debug, PartialEq, Eq)]
+#[derive(Clone, Copy, Debug, PartialEq, Eq, Hash)]
 pub struct Change<'a> {
     unix_time: i64,
     before: &'a LocalTimeType,
@@ -101,7 +101,7 @@ pub(super) fn change_at<'a>(
 ///
 /// The next segment may have the same type: a segment also ends at a transition to an equal type. A
 /// [`Change`](super::Change) is an instant at which the type differs.
-#[derive(Clone, Copy, Debug, PartialEq, Eq)]
+#[derive(Clone, Copy, Debug, PartialEq, Eq, Hash)]
 pub struct Segment<'a> {
     pub(super) from: i64,
     pub(super) last: i64,

@@ -9,6 +9,7 @@ ghost use Rattle.tz_zone.specs.Table.{LeapSecond};
 ghost use Rattle.tz_zone.specs.ValidZone.{AreLeapSeconds, MayBeFirst, MayFollow, FollowsAt};
 ghost use Rattle.tz_zone.specs.ValidZone.{HasBegunAt, ExpiresAt, IsPlainTable};
 
+use std::hash::{Hash, Hasher};
 use std::marker::Model;
 use tz_base::constants::SECONDS_PER_28_DAYS;
 
@@ -32,6 +33,21 @@ impl Model for LeapSecond {
       correction =
           l.correction;
     } };
+}
+
+impl Hash for LeapSecond {
+    ghost use Rattle.std.specs.Cmp.Rules.{hashing};
+    ghost use Rattle.std.proofs.Common.{rules};
+    ghost use Rattle.tz_zone.specs.ZoneHash.{leap_input};
+
+    ghost hash_input = { leap_input };
+
+    ghost respects_eq = { Prim.search (hashing, rules) };
+
+    fn hash<H: Hasher>(&self, state: &mut H) {
+        self.unix_leap_time.hash(state);
+        self.correction.hash(state);
+    }
 }
 
 impl LeapSecond {

@@ -9,6 +9,7 @@ use super::zone_data::lent;
 use super::{LeapSecond, LocalTimeType, TimeZoneRef, Transition, TransitionRule};
 use std::alloc::{Allocator, Global};
 use std::fmt;
+use std::hash::{Hash, Hasher};
 use tz_base::error::TzError;
 
 /// A time zone that owns its parts, on one allocator.
@@ -56,6 +57,22 @@ impl<A: Allocator + Copy> Eq for TimeZone<A> {
     ghost use Rattle.tz_zone.specs.ZoneRef.{own_zone_of};
 
     ghost laws = { on_equiv own_zone_of (IsEquivalence-from_equality same_zone Decides-same_zone) };
+}
+
+impl<A: Allocator + Copy> Hash for TimeZone<A> {
+    ghost use Rattle.std.proofs.Common.{ap};
+    ghost use Rattle.tz_zone.specs.SameZone.{Decides-same_zone};
+    ghost use Rattle.tz_zone.specs.ZoneHash.{zone_input};
+    ghost use Rattle.tz_zone.specs.ZoneRef.{own_zone_of};
+
+    ghost hash_input = { λ z. zone_input (own_zone_of z) };
+
+    ghost respects_eq = { λ a b h. ap zone_input
+        ((Decides-same_zone (own_zone_of a) (own_zone_of b)).0 h) };
+
+    fn hash<H: Hasher>(&self, state: &mut H) {
+        self.as_ref().hash(state);
+    }
 }
 
 impl<A: Allocator + Copy> TimeZone<A> {

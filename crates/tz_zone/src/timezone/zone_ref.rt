@@ -9,6 +9,7 @@ use crate::clock;
 use crate::leap::table_checks::expiry;
 use crate::table::TransitionView;
 use std::fmt;
+use std::hash::{Hash, Hasher};
 use tz_base::error::TzError;
 
 /// A borrowed time zone.
@@ -49,6 +50,24 @@ impl<'a> Eq for TimeZoneRef<'a> {
     ghost use Rattle.tz_zone.specs.ZoneRef.{zone_of};
 
     ghost laws = { on_equiv zone_of (IsEquivalence-from_equality same_zone Decides-same_zone) };
+}
+
+impl<'a> Hash for TimeZoneRef<'a> {
+    ghost use Rattle.std.proofs.Common.{ap};
+    ghost use Rattle.tz_zone.specs.SameZone.{Decides-same_zone};
+    ghost use Rattle.tz_zone.specs.ZoneHash.{zone_input};
+    ghost use Rattle.tz_zone.specs.ZoneRef.{zone_of};
+
+    ghost hash_input = { λ z. zone_input (zone_of z) };
+
+    ghost respects_eq = { λ a b h. ap zone_input ((Decides-same_zone (zone_of a) (zone_of b)).0 h) };
+
+    fn hash<H: Hasher>(&self, state: &mut H) {
+        self.plain.transitions.hash(state);
+        self.plain.local_time_types.hash(state);
+        self.plain.leap_seconds.hash(state);
+        self.extra_rule.hash(state);
+    }
 }
 
 impl<'a> TimeZoneRef<'a> {

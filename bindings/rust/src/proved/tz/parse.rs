@@ -9,6 +9,7 @@ use crate::proved::tz_base::fields::Fields;
 use crate::proved::tz_zone::inner::after_byte;
 use core::error;
 use core::fmt;
+use core::str::FromStr;
 
 /// A part of a printed date time, and what can stand in its place.
 ///
@@ -321,6 +322,22 @@ fn read_date_time(text: &[u8]) -> Result<ParsedDateTime, Missing<'_>> {
         local: UtcDateTime::of_fields(fields),
         ut_offset,
     })
+}
+
+impl FromStr for ParsedDateTime {
+    type Err = ParseDateTimeError;
+
+    fn from_str(s: &str) -> Result<ParsedDateTime, ParseDateTimeError> {
+        ParsedDateTime::parse(s.as_bytes())
+    }
+}
+
+impl TryFrom<&str> for ParsedDateTime {
+    type Error = ParseDateTimeError;
+
+    fn try_from(t: &str) -> Result<ParsedDateTime, ParseDateTimeError> {
+        ParsedDateTime::parse(t.as_bytes())
+    }
 }
 
 impl ParsedDateTime {

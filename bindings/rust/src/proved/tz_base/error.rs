@@ -88,7 +88,7 @@ pub enum ParseDataError {
 }
 
 /// Why a string is not a TZ string.
-#[derive(Debug, PartialEq, Eq)]
+#[derive(Clone, Debug, PartialEq, Eq)]
 #[non_exhaustive]
 pub enum TzStringError {
     /// The bytes are not UTF-8. No call returns this, since only digits are converted.
@@ -118,7 +118,7 @@ pub enum TzStringError {
 }
 
 /// Why bytes are not a TZif file.
-#[derive(Debug, PartialEq, Eq)]
+#[derive(Clone, Debug, PartialEq, Eq)]
 #[non_exhaustive]
 pub enum TzFileError {
     /// The footer is not UTF-8.
@@ -144,7 +144,7 @@ pub enum TzFileError {
 }
 
 /// Any error but that of a file that cannot be read.
-#[derive(Debug)]
+#[derive(Clone, Debug, PartialEq, Eq)]
 #[non_exhaustive]
 pub enum TzError {
     /// The bytes are not a TZif file.

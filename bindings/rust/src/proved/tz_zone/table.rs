@@ -3,6 +3,7 @@
 
 mod transition_view;
 
+use core::hash::{Hash, Hasher};
 pub use transition_view::TransitionView;
 
 /// A leap time from which on a local time type holds.
@@ -11,6 +12,13 @@ pub use transition_view::TransitionView;
 pub struct Transition {
     unix_leap_time: i64,
     local_time_type_index: usize,
+}
+
+impl Hash for Transition {
+    fn hash<H: Hasher>(&self, state: &mut H) {
+        self.unix_leap_time.hash(state);
+        self.local_time_type_index.hash(state);
+    }
 }
 
 impl Transition {

@@ -19,6 +19,7 @@ use crate::proved::tz_zone::inner::plain;
 use crate::proved::tz_zone::timezone::TimeZoneRef;
 use core::cmp::Ordering;
 use core::fmt;
+use core::hash::{Hash, Hasher};
 use core::time::Duration;
 
 /// A date time with the local time type that shows it, and its Unix time.
@@ -39,6 +40,13 @@ impl PartialEq for DateTime {
 }
 
 impl Eq for DateTime {}
+
+impl Hash for DateTime {
+    fn hash<H: Hasher>(&self, state: &mut H) {
+        self.unix_time.hash(state);
+        self.fields.nanoseconds.hash(state);
+    }
+}
 
 impl PartialOrd for DateTime {
     fn partial_cmp(&self, other: &DateTime) -> Option<Ordering> {

@@ -14,7 +14,7 @@ use crate::shim::alloc::{AllocError, Allocator, Global};
 use core::fmt;
 
 /// A found date time.
-#[derive(Clone, Copy, Debug, PartialEq)]
+#[derive(Clone, Copy, Debug, PartialEq, Eq)]
 pub enum FoundDateTimeKind {
     /// The clock shows the date time.
     Normal(DateTime),
@@ -46,7 +46,7 @@ impl FoundDateTimeKind {
 ///
 /// Lists are equal when their entries are, on whichever allocators.
 #[cfg(feature = "alloc")]
-#[derive(PartialEq)]
+#[derive(PartialEq, Eq)]
 pub struct FoundDateTimeList<A: Allocator + Copy = Global> {
     pub(crate) found: Vec<FoundDateTimeKind, A>,
 }

@@ -16,7 +16,7 @@ use core::time::Duration;
 /// Date times are compared field by field, so second 60 comes before the next minute's second 0,
 /// although both have the same Unix time.
 #[repr(C)]
-#[derive(Clone, Copy, PartialEq, Eq, PartialOrd, Ord)]
+#[derive(Clone, Copy, PartialEq, Eq, PartialOrd, Ord, Hash)]
 pub struct UtcDateTime {
     fields: Fields,
     // The reading of the fields: sums and conversions need not work it out again.

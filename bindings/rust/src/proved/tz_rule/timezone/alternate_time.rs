@@ -7,6 +7,7 @@ use super::year_table::YearTable;
 use super::{LocalTimeType, RuleDay};
 use crate::proved::tz_base::error::TransitionRuleError;
 use core::fmt;
+use core::hash::{Hash, Hasher};
 
 /// Whether the offset is above -25 and below 26 hours.
 const fn is_rule_offset(offset: i32) -> bool {
@@ -219,6 +220,17 @@ impl PartialEq for AlternateTime {
 }
 
 impl Eq for AlternateTime {}
+
+impl Hash for AlternateTime {
+    fn hash<H: Hasher>(&self, state: &mut H) {
+        self.std().hash(state);
+        self.dst().hash(state);
+        self.dst_start.hash(state);
+        self.dst_start_time().hash(state);
+        self.dst_end.hash(state);
+        self.dst_end_time().hash(state);
+    }
+}
 
 impl fmt::Debug for AlternateTime {
     fn fmt(&self, f: &mut fmt::Formatter<'_>) -> fmt::Result {

@@ -3,6 +3,7 @@
 
 use crate::proved::tz_base::error::LocalTimeTypeError;
 use core::fmt;
+use core::hash::{Hash, Hasher};
 
 /// A name of one to seven ASCII bytes, or none, of length 0. The bytes after the name are zero.
 #[repr(C)]
@@ -28,6 +29,14 @@ impl PartialEq for LocalTimeType {
 }
 
 impl Eq for LocalTimeType {}
+
+impl Hash for LocalTimeType {
+    fn hash<H: Hasher>(&self, state: &mut H) {
+        self.ut_offset.hash(state);
+        self.is_dst.hash(state);
+        self.designation().hash(state);
+    }
+}
 
 impl fmt::Debug for LocalTimeType {
     fn fmt(&self, f: &mut fmt::Formatter<'_>) -> fmt::Result {

@@ -3,6 +3,7 @@
 
 use crate::proved::tz_base::calendar;
 use crate::proved::tz_base::error::TransitionRuleError;
+use core::hash::{Hash, Hasher};
 
 /// The day of a month of this length, counted from 0, on which a week day falls for the w-th time,
 /// or for week 5 for the last time, if it first falls on day `first`.
@@ -29,7 +30,7 @@ const fn year_day_before(year_day: u16, least: u16) -> u16 {
 }
 
 /// The n-th of a year's days that are not February 29th, from 1 to 365. (POSIX.1-2017, 8.3: `Jn`.)
-#[derive(Clone, Copy, Debug, PartialEq, Eq)]
+#[derive(Clone, Copy, Debug, PartialEq, Eq, Hash)]
 pub struct Julian1WithoutLeap(pub(super) u16);
 
 impl Julian1WithoutLeap {
@@ -60,7 +61,7 @@ impl Julian1WithoutLeap {
 
 /// The day n days after January 1st, from 0 to 365. In a year that is not leap 365 is the next
 /// January 1st. (POSIX.1-2017, 8.3: `n`.)
-#[derive(Clone, Copy, Debug, PartialEq, Eq)]
+#[derive(Clone, Copy, Debug, PartialEq, Eq, Hash)]
 pub struct Julian0WithLeap(pub(super) u16);
 
 impl Julian0WithLeap {
@@ -85,7 +86,7 @@ impl Julian0WithLeap {
 
 /// The first, second, third, fourth or last (5) of a month's days with a given week day.
 /// (POSIX.1-2017, 8.3: `Mm.w.d`.)
-#[derive(Clone, Copy, Debug, PartialEq, Eq)]
+#[derive(Clone, Copy, Debug, PartialEq, Eq, Hash)]
 pub struct MonthWeekDay {
     pub(super) month: u8,
     pub(super) week: u8,
@@ -186,6 +187,25 @@ impl PartialEq for RuleDay {
 }
 
 impl Eq for RuleDay {}
+
+impl Hash for RuleDay {
+    fn hash<H: Hasher>(&self, state: &mut H) {
+        match self {
+            RuleDay::Julian1WithoutLeap(day) => {
+                state.write_u8(0);
+                day.hash(state);
+            }
+            RuleDay::Julian0WithLeap(day) => {
+                state.write_u8(1);
+                day.hash(state);
+            }
+            RuleDay::MonthWeekDay(day) => {
+                state.write_u8(2);
+                day.hash(state);
+            }
+        }
+    }
+}
 
 impl RuleDay {
     /// How many days after January 1st the day is in leap years or in the others, for each week day

@@ -2,6 +2,7 @@
 //! The table of leap seconds, and its checks.
 
 use crate::proved::tz_base::constants::SECONDS_PER_28_DAYS;
+use core::hash::{Hash, Hasher};
 
 /// A leap time from which on leap time is ahead of Unix time by a correction.
 #[repr(C)]
@@ -9,6 +10,13 @@ use crate::proved::tz_base::constants::SECONDS_PER_28_DAYS;
 pub struct LeapSecond {
     unix_leap_time: i64,
     correction: i32,
+}
+
+impl Hash for LeapSecond {
+    fn hash<H: Hasher>(&self, state: &mut H) {
+        self.unix_leap_time.hash(state);
+        self.correction.hash(state);
+    }
 }
 
 impl LeapSecond {

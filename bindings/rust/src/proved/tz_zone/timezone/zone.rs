@@ -15,6 +15,8 @@ use crate::shim::Vec;
 use crate::shim::alloc::{Allocator, Global};
 #[cfg(feature = "alloc")]
 use core::fmt;
+#[cfg(feature = "alloc")]
+use core::hash::{Hash, Hasher};
 
 /// A time zone that owns its parts, on one allocator.
 #[cfg(feature = "alloc")]
@@ -36,6 +38,13 @@ impl<A: Allocator + Copy> PartialEq for TimeZone<A> {
 
 #[cfg(feature = "alloc")]
 impl<A: Allocator + Copy> Eq for TimeZone<A> {}
+
+#[cfg(feature = "alloc")]
+impl<A: Allocator + Copy> Hash for TimeZone<A> {
+    fn hash<H: Hasher>(&self, state: &mut H) {
+        self.as_ref().hash(state);
+    }
+}
 
 #[cfg(feature = "alloc")]
 impl<A: Allocator + Copy> TimeZone<A> {

@@ -8,6 +8,7 @@ use crate::proved::tz_zone::clock;
 use crate::proved::tz_zone::leap::table_checks::expiry;
 use crate::proved::tz_zone::table::TransitionView;
 use core::fmt;
+use core::hash::{Hash, Hasher};
 
 /// A borrowed time zone.
 ///
@@ -30,6 +31,15 @@ impl<'a> PartialEq for TimeZoneRef<'a> {
 }
 
 impl<'a> Eq for TimeZoneRef<'a> {}
+
+impl<'a> Hash for TimeZoneRef<'a> {
+    fn hash<H: Hasher>(&self, state: &mut H) {
+        self.plain.transitions.hash(state);
+        self.plain.local_time_types.hash(state);
+        self.plain.leap_seconds.hash(state);
+        self.extra_rule.hash(state);
+    }
+}
 
 impl<'a> TimeZoneRef<'a> {
     /// The zone with these parts. (RFC 8536, section 3.2)
