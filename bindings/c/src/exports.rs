@@ -7,13 +7,14 @@
 use crate::pointers::lent;
 use crate::pointers::{Out, list, list_mut, one};
 use crate::proved::tz_c::date_times::ParsedData;
+use crate::proved::tz_c::rule_data::RuleData;
 use crate::proved::tz_c::texts::SettingData;
 use crate::proved::tz_c::zone_data::ZoneData;
 use crate::proved::tz_c::zones::{ChangeData, ConflictData, OffsetsData, PartsData, SegmentData};
 use crate::proved::tz_c::{codes, columns, date_times, searches, texts, zones};
 use tz::proved::tz::inner::{DateTimeData, Fields, FoundData, UtcData};
 use tz::proved::tz::{DateTime, UtcDateTime};
-use tz::proved::tz_rule::inner::{AlternateData, DayData, RuleData};
+use tz::proved::tz_rule::inner::{AlternateData, DayData};
 use tz::proved::tz_rule::timezone::LocalTimeType;
 use tz::proved::tz_zone::inner::FileSizes;
 use tz::proved::tz_zone::timezone::{LeapSecond, Transition};

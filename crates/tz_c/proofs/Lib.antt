@@ -5,3 +5,4 @@ pub mod DaySeconds
 pub mod CodeTexts
 pub mod NameBytes
 pub mod SingleCalls
+pub mod SoundRules

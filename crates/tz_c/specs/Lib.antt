@@ -6,6 +6,7 @@ pub mod ErrorTexts
 pub mod Files
 pub mod Layout
 pub mod Indexes
+pub mod RuleData
 pub mod Rules
 pub mod Settings
 pub mod Tables

@@ -3,14 +3,14 @@ use Rattle.std.specs.Prelude.{◌≡◌, ◌⊎◌, ℕ, ◌≤◌, List, length
 use Rattle.tz_base.specs.declared.error.TzError.{TzError}
 use Rattle.tz_base.specs.declared.error.TzError.TheVariants.{Memory}
 use Rattle.tz_rule.specs.LocalTimeType.{LocalTimeType}
-use Rattle.tz_rule.specs.RuleData.{rule_given}
-use Rattle.tz_rule.specs.declared.timezone.transition_rule.RuleData.{RuleData}
 use Rattle.tz_zone.specs.Offsets.{AreEndOffsets}
 use Rattle.tz_zone.specs.Table.{LeapSecond, Transition, Zone, zone_with}
 use Rattle.tz_zone.specs.TzFile.{IsTzFile}
 use Rattle.tz_zone.specs.TzFileFault.{IsReadFault}
 use Rattle.tz_c.specs.Codes.{buffer_length, code_of}
 use Rattle.tz_c.specs.declared.zones.OffsetsData.{OffsetsData}
+use Rattle.tz_c.specs.RuleData.{rule_given}
+use Rattle.tz_c.specs.declared.rule_data.RuleData.{RuleData}
 
 -- the zone that is written
 abbrev pub zone_written : List Transition → List LocalTimeType → List LeapSecond → RuleData → Zone

@@ -11,6 +11,7 @@ ghost use Rattle.tz_c.specs.Texts.{IsTextAnswer};
 ghost use Rattle.tz_c.specs.Layout.{layout};
 
 use crate::date_times::ParsedData;
+use crate::rule_data::RuleData;
 use crate::texts::{SettingData, write_text};
 use crate::zone_data::ZoneData;
 use crate::zones::{ChangeData, ConflictData, OffsetsData, PartsData, SegmentData};
@@ -20,7 +21,7 @@ use tz_base::error::{
     DateTimeError, LocalTimeTypeError, ParseDataError, TimeZoneError, TransitionRuleError, TzError,
     TzFileError, TzStringError,
 };
-use tz_rule::inner::{AlternateData, DayData, RuleData};
+use tz_rule::inner::{AlternateData, DayData};
 use tz_rule::timezone::LocalTimeType;
 use tz_zone::inner::FileSizes;
 use tz_zone::timezone::{LeapSecond, Transition};

@@ -6,6 +6,7 @@ mod codes;
 mod columns;
 mod date_times;
 pub mod laws;
+mod rule_data;
 mod searches;
 mod texts;
 mod zone_data;

@@ -1,7 +1,6 @@
 //! TZ strings, TZif files, names of zones and settings.
 
 ghost use Rattle.std.specs.Prelude.{◌≡◌, ◌≢◌, ◌≤◌, length, pos, ◌↔◌, IsTrue, Some};
-ghost use Rattle.tz_rule.specs.RuleData.{rule_given};
 ghost use Rattle.tz_rule.specs.declared.timezone.transition_rule.TransitionRule.{TransitionRule};
 ghost use Rattle.tz_zone.specs.FileSizes.{AreSizesOf};
 ghost use Rattle.tz_zone.specs.Settings.{local_time};
@@ -14,6 +13,7 @@ ghost use Rattle.tz_zone.specs.ZoneNames.{IsZoneName};
 ghost use Rattle.tz.specs.PrintedText.{printed_text};
 ghost use Rattle.tz_c.specs.Codes.{IsAnswerOr, invalid_name, IsAnswer, IsAnswerBy, file_code};
 ghost use Rattle.tz_c.specs.Files.{GivesTextRule};
+ghost use Rattle.tz_c.specs.RuleData.{rule_given};
 ghost use Rattle.tz_c.specs.Rules.{rule_of_lists};
 ghost use Rattle.tz_c.specs.Settings.{IsSettingAnswer};
 ghost use Rattle.tz_c.specs.Tables.{IsOnlyReadAnswer, IsReadAnswer, zone_written};
@@ -22,12 +22,13 @@ ghost use Rattle.tz_c.specs.Texts.{IsTextAnswer, IsRuleTextAnswer};
 use crate::codes::{
     BUFFER_LENGTH, EMPTY_STRING, INVALID_NAME, NO_RULE, NO_TZ_STRING, OK, code_of, file_code,
 };
+use crate::rule_data::{RuleData, rule_of};
 use crate::zones::{OffsetsData, rule_of_lists};
 use std::alloc::Global;
 use std::str;
 use tz::inner::{TextBuffer, UtcData, fields_of};
 use tz::{DateTime, TzString, UtcDateTime};
-use tz_rule::inner::{AlternateData, RuleData};
+use tz_rule::inner::AlternateData;
 use tz_rule::timezone::LocalTimeType;
 use tz_zone::inner::{FileSizes, file_sizes, parse_posix_tz, plain};
 use tz_zone::timezone::{LeapSecond, TimeZone, Transition, is_zone_name};
@@ -92,7 +93,7 @@ pub extern "C" fn tz_rule_text(
     let Some(rule) = rule_of_lists(fixed, alternate) else {
         return NO_RULE;
     };
-    match TzString::from_rule(&rule.rule()) {
+    match TzString::from_rule(&rule_of(rule)) {
         Some(string) => write_text(string.as_str().as_bytes(), text, len),
         None => NO_TZ_STRING,
     }

@@ -30,7 +30,7 @@ use crate::codes::{
 use crate::zone_data::ZoneData;
 use tz_rule::inner::{AlternateData, DayData, RuleRef, find_local_time_type};
 use tz_rule::timezone::{
-    Julian0WithLeap, Julian1WithoutLeap, LocalTimeType, MonthWeekDay, RuleDay,
+    AlternateTime, Julian0WithLeap, Julian1WithoutLeap, LocalTimeType, MonthWeekDay, RuleDay,
 };
 use tz_zone::inner::{self, effect, leap};
 use tz_zone::timezone::{Change, LeapSecond, Segment, Transition};
@@ -135,16 +135,16 @@ pub extern "C" fn tz_alternate_new(
         dst_end_time) result out.new }
     ensures kept { result ≢ 0 → out.new ≡ out.old }
 {
-    match AlternateData::new(
+    match AlternateTime::new(
         *std,
         *dst,
-        *dst_start,
+        dst_start.day(),
         dst_start_time,
-        *dst_end,
+        dst_end.day(),
         dst_end_time,
     ) {
-        Ok(clock) => {
-            *out = clock;
+        Ok(rule) => {
+            *out = *AlternateData::of(&rule);
             OK
         }
         Err(error) => rule_code(error),
@@ -167,12 +167,12 @@ pub extern "C" fn tz_alternate_conflict(
         dst_end_time) result out.new }
     ensures kept { result ≢ 0 → out.new ≡ out.old }
 {
-    match AlternateData::conflict(
+    match AlternateTime::conflict(
         *std,
         *dst,
-        *dst_start,
+        dst_start.day(),
         dst_start_time,
-        *dst_end,
+        dst_end.day(),
         dst_end_time,
     ) {
         Some((first_year, second_year, distance)) => {

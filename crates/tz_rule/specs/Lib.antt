@@ -24,4 +24,3 @@ pub mod Same
 pub mod SameDay
 pub mod SameRule
 pub mod RuleHash
-pub mod RuleData

@@ -4,7 +4,5 @@
 pub use crate::timezone::alternate_time::AlternateData;
 pub use crate::timezone::rule_changes::{RuleChange, change_after, change_up_to};
 pub use crate::timezone::rule_day::DayData;
-pub use crate::timezone::transition_rule::{
-    RuleData, RuleRef, end, find_local_time_type, parts_are_sound, segment_at, start,
-};
+pub use crate::timezone::transition_rule::{RuleRef, find_local_time_type, segment_at};
 pub use crate::timezone::utc_statics::{no_rule, utc_types};

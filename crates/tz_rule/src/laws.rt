@@ -8,6 +8,7 @@ ghost use Rattle.tz_rule.specs.LocalTimeType.{LocalTimeType};
 ghost use Rattle.tz_rule.specs.Rule.{IsRuleType, IsSoundRule};
 ghost use Rattle.tz_rule.specs.declared.timezone.transition_rule.TransitionRule.{TransitionRule as Rule};
 
+use crate::timezone::alternate_time::AlternateData;
 use crate::timezone::{AlternateTime, TransitionRule};
 
 /// A rule and its days pass the checks of their constructors.
@@ -16,7 +17,7 @@ pub fn rule_parts_are_sound(rule: &TransitionRule)
 {
     match rule {
         TransitionRule::Fixed(_) => {}
-        TransitionRule::Alternate(rule) => rule.plain().parts_are_sound(),
+        TransitionRule::Alternate(rule) => AlternateData::of(rule).parts_are_sound(),
     }
 }
 
@@ -47,7 +48,7 @@ pub fn starts_and_ends_are_near(rule: &AlternateTime)
     ensures starts { (year : ℤ) → IsNearYear (start_of rule.now year) year }
     ensures ends { (year : ℤ) → IsNearYear (end_of rule.now year) year }
 {
-    rule.plain().parts_are_sound();
+    AlternateData::of(rule).parts_are_sound();
 }
 
 /// For an instant only the starts and ends of its year in UTC and of the two neighbours matter:
@@ -60,7 +61,7 @@ pub fn far_starts_and_ends_are_over_or_to_come(rule: &AlternateTime)
         → (u <ℤ start_of rule.now y)
         × (u <ℤ end_of rule.now y) }
 {
-    rule.plain().parts_are_sound();
+    AlternateData::of(rule).parts_are_sound();
 }
 
 /// After 400 years, which are 12622780800 seconds, a rule has the same type.

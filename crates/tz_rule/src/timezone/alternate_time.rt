@@ -209,9 +209,21 @@ impl AlternateTime {
             (start_of (alternate_of std dst dst_start dst_start_time dst_end dst_end_time))
             (end_of (alternate_of std dst dst_start dst_start_time dst_end dst_end_time)))) }
     {
-        let start = DayData::of(&dst_start);
-        let end = DayData::of(&dst_end);
-        AlternateData::conflict(std, dst, start, dst_start_time, end, dst_end_time)
+        let parts = Parts {
+            std,
+            dst,
+            dst_start: DayData::of(&dst_start),
+            dst_start_time,
+            dst_end: DayData::of(&dst_end),
+            dst_end_time,
+        };
+        match parts.check_range() {
+            Ok(()) => {}
+            Err(_) => return None,
+        }
+        let starts = parts.starts(&dst_start);
+        let ends = parts.ends(&dst_end);
+        starts.conflict(&ends)
     }
 
     /// The type of standard time.
@@ -256,24 +268,6 @@ impl AlternateTime {
         ensures { result ≡ self.now.dst_end_time }
     {
         self.plain.dst_end_time()
-    }
-
-    /// The rule of its data.
-    pub(crate) fn of_plain(plain: &AlternateData) -> Self
-        ensures { result ≡ plain.now }
-    {
-        AlternateTime {
-            plain: *plain,
-            dst_start: plain.dst_start().day(),
-            dst_end: plain.dst_end().day(),
-        }
-    }
-
-    /// The rule as plain data, with its tables.
-    pub(crate) const fn plain(&self) -> &AlternateData
-        ensures { result.now ≡ self.now }
-    {
-        &self.plain
     }
 }
 
@@ -369,33 +363,11 @@ impl AlternateData {
     ghost use Rattle.tz_rule.specs.Parts.{rule_of};
     ghost use Rattle.tz_rule.specs.YearTables.{start_table, end_table, ComesFirst, ChangesOrder};
 
-    /// The rule with these parts, as `AlternateTime::new` makes it.
-    pub const fn new(
-        std: LocalTimeType,
-        dst: LocalTimeType,
-        dst_start: DayData,
-        dst_start_time: i32,
-        dst_end: DayData,
-        dst_end_time: i32,
-    ) -> Result<Self, TransitionRuleError>
-        ensures value { IfOk result (λ r. r ≡ alternate_of std dst dst_start dst_start_time dst_end
-            dst_end_time) }
-        ensures ok { OnOk result (IsConsistentRule
-            (alternate_of std dst dst_start dst_start_time dst_end dst_end_time)) }
-        ensures err { IfErr result (IsFirstRuleFault
-            (alternate_of std dst dst_start dst_start_time dst_end dst_end_time)) }
+    /// The data of a rule.
+    pub const fn of(rule: &AlternateTime) -> &Self
+        ensures { result.now ≡ rule.now }
     {
-        match AlternateTime::new(
-            std,
-            dst,
-            dst_start.day(),
-            dst_start_time,
-            dst_end.day(),
-            dst_end_time,
-        ) {
-            Ok(rule) => Ok(*rule.plain()),
-            Err(error) => Err(error),
-        }
+        &rule.plain
     }
 
     /// The rule of parts in range with their tables, whose starts and ends keep their order.
@@ -422,44 +394,6 @@ impl AlternateData {
             starts,
             ends,
         }
-    }
-
-    /// Why parts in range make no rule, as `AlternateTime::conflict` says it.
-    pub const fn conflict(
-        std: LocalTimeType,
-        dst: LocalTimeType,
-        dst_start: DayData,
-        dst_start_time: i32,
-        dst_end: DayData,
-        dst_end_time: i32,
-    ) -> Option<(i32, i32, i32)>
-        ensures range { IfSome result (λ _. IsInRuleRange
-            (alternate_of std dst dst_start dst_start_time dst_end dst_end_time)) }
-        ensures some { IfSome result (λ c. IsConflict
-            (start_of (alternate_of std dst dst_start dst_start_time dst_end dst_end_time))
-            (end_of (alternate_of std dst dst_start dst_start_time dst_end dst_end_time))
-            c.0 c.1 c.2) }
-        ensures none { IfNone result (¬
-            (IsInRuleRange (alternate_of std dst dst_start dst_start_time dst_end dst_end_time)
-            × IsInconsistent
-            (start_of (alternate_of std dst dst_start dst_start_time dst_end dst_end_time))
-            (end_of (alternate_of std dst dst_start dst_start_time dst_end dst_end_time)))) }
-    {
-        let parts = Parts {
-            std,
-            dst,
-            dst_start,
-            dst_start_time,
-            dst_end,
-            dst_end_time,
-        };
-        match parts.check_range() {
-            Ok(()) => {}
-            Err(_) => return None,
-        }
-        let starts = parts.starts(&dst_start.day());
-        let ends = parts.ends(&dst_end.day());
-        starts.conflict(&ends)
     }
 
     /// The rule whose bytes are all zero: UTC without a name all year.
@@ -559,7 +493,7 @@ impl AlternateData {
 
     /// The parts are those of a valid rule. This does nothing; its contract is what holds of every
     /// value.
-    pub(crate) const fn parts_are_sound(&self)
+    pub const fn parts_are_sound(&self)
         ensures rule { IsConsistentRule self.now }
         ensures days { AreRuleDays self.now }
     {

@@ -1,10 +1,8 @@
 //! Transition rules: one type for all time, or an alternate rule.
 
 ghost use Rattle.std.specs.Prelude.{◌≡◌, ◌≤◌, ◌≢◌, ◌+ℤ◌, ◌≤ℤ◌, ℤ, pos, negsuc, IfOk, IfErr, MatchOption};
-ghost use Rattle.tz_rule.specs.RuleData.{rule_given};
-ghost use Rattle.tz_rule.specs.Alternate.{start_of, end_of, IsNearYear};
 ghost use Rattle.tz_rule.specs.LocalTimeType.{LocalTimeType};
-ghost use Rattle.tz_rule.specs.Rule.{IsRuleType, IsSoundRule};
+ghost use Rattle.tz_rule.specs.Rule.{IsRuleType};
 ghost use Rattle.tz_rule.specs.RuleRef.{rule_seen};
 ghost use Rattle.tz_rule.specs.RuleSegments.{IsRuleChange};
 
@@ -72,44 +70,6 @@ impl Hash for TransitionRule {
     }
 }
 
-/// A rule, or none, in C's layout. What its kind does not use is zero.
-#[repr(C)]
-#[derive(Clone, Copy)]
-pub struct RuleData {
-    /// 0: no rule, 1: a fixed type, 2: an alternate rule.
-    pub kind: u32,
-    /// The fixed type.
-    pub fixed: LocalTimeType,
-    /// The alternate rule.
-    pub alternate: AlternateData,
-}
-
-impl RuleData {
-    /// The data of a rule, or of none.
-    pub const fn of(rule: &Option<TransitionRule>) -> Self
-        ensures rule { rule_given result ≡ rule.now }
-        ensures kind { result.kind ≤ 2 }
-    {
-        match rule {
-            None => RuleData {
-                kind: 0,
-                fixed: LocalTimeType::utc(),
-                alternate: AlternateData::zeros(),
-            },
-            Some(TransitionRule::Fixed(local_time_type)) => RuleData {
-                kind: 1,
-                fixed: *local_time_type,
-                alternate: AlternateData::zeros(),
-            },
-            Some(TransitionRule::Alternate(rule)) => RuleData {
-                kind: 2,
-                fixed: LocalTimeType::utc(),
-                alternate: *rule.plain(),
-            },
-        }
-    }
-}
-
 /// A rule that is lent: a fixed type, or the data of an alternate rule.
 #[derive(Clone, Copy)]
 pub enum RuleRef<'a> {
@@ -126,35 +86,9 @@ impl<'a> RuleRef<'a> {
     {
         match rule {
             TransitionRule::Fixed(local_time_type) => RuleRef::Fixed(local_time_type),
-            TransitionRule::Alternate(rule) => RuleRef::Alternate(rule.plain()),
+            TransitionRule::Alternate(rule) => RuleRef::Alternate(AlternateData::of(rule)),
         }
     }
-
-    /// The rule that is lent.
-    pub fn rule(self) -> TransitionRule
-        ensures { result ≡ rule_seen self.entry }
-    {
-        match self {
-            RuleRef::Fixed(local_time_type) => TransitionRule::Fixed(*local_time_type),
-            RuleRef::Alternate(plain) => TransitionRule::Alternate(AlternateTime::of_plain(plain)),
-        }
-    }
-}
-
-/// The instant at which daylight saving time starts in a year.
-pub fn start(rule: &AlternateTime, year: i32) -> i64
-    ensures value { result ≡ start_of rule.now year }
-    ensures bound { IsNearYear result year }
-{
-    rule.plain().switch_in(false, year)
-}
-
-/// The instant at which daylight saving time ends in a year.
-pub fn end(rule: &AlternateTime, year: i32) -> i64
-    ensures value { result ≡ end_of rule.now year }
-    ensures bound { IsNearYear result year }
-{
-    rule.plain().switch_in(true, year)
 }
 
 /// The segment of the rule around an instant: the first and the last instant through which it has
@@ -195,16 +129,5 @@ pub const fn find_local_time_type<'a>(
     match segment_at(rule, unix_time).local_time_type {
         Some(local_time_type) => Ok(local_time_type),
         None => Err(TzError::OutOfRange),
-    }
-}
-
-/// The rule and its days pass the checks of their constructors. This does nothing; its contract is
-/// what holds of every rule.
-pub const fn parts_are_sound(rule: RuleRef<'_>)
-    ensures { IsSoundRule (rule_seen rule.entry) }
-{
-    match rule {
-        RuleRef::Fixed(_) => {}
-        RuleRef::Alternate(rule) => rule.parts_are_sound(),
     }
 }

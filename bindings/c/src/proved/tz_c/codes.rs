@@ -2,6 +2,7 @@
 //! The codes of errors and their texts, and the layout of structures.
 
 use crate::proved::tz_c::date_times::ParsedData;
+use crate::proved::tz_c::rule_data::RuleData;
 use crate::proved::tz_c::texts::{SettingData, write_text};
 use crate::proved::tz_c::zone_data::ZoneData;
 use crate::proved::tz_c::zones::{ChangeData, ConflictData, OffsetsData, PartsData, SegmentData};
@@ -11,7 +12,7 @@ use tz::proved::tz_base::error::{
     DateTimeError, LocalTimeTypeError, ParseDataError, TimeZoneError, TransitionRuleError, TzError,
     TzFileError, TzStringError,
 };
-use tz::proved::tz_rule::inner::{AlternateData, DayData, RuleData};
+use tz::proved::tz_rule::inner::{AlternateData, DayData};
 use tz::proved::tz_rule::timezone::LocalTimeType;
 use tz::proved::tz_zone::inner::FileSizes;
 use tz::proved::tz_zone::timezone::{LeapSecond, Transition};

@@ -6,6 +6,7 @@ pub(crate) mod codes;
 pub(crate) mod columns;
 pub(crate) mod date_times;
 
+pub(crate) mod rule_data;
 pub(crate) mod searches;
 pub(crate) mod texts;
 pub(crate) mod zone_data;

@@ -4,11 +4,12 @@
 use crate::proved::tz_c::codes::{
     BUFFER_LENGTH, EMPTY_STRING, INVALID_NAME, NO_RULE, NO_TZ_STRING, OK, code_of, file_code,
 };
+use crate::proved::tz_c::rule_data::{RuleData, rule_of};
 use crate::proved::tz_c::zones::{OffsetsData, rule_of_lists};
 use core::str;
 use tz::proved::tz::inner::{TextBuffer, UtcData, fields_of};
 use tz::proved::tz::{DateTime, TzString, UtcDateTime};
-use tz::proved::tz_rule::inner::{AlternateData, RuleData};
+use tz::proved::tz_rule::inner::AlternateData;
 use tz::proved::tz_rule::timezone::LocalTimeType;
 use tz::proved::tz_zone::inner::{FileSizes, file_sizes, parse_posix_tz, plain};
 use tz::proved::tz_zone::timezone::{LeapSecond, TimeZone, Transition, is_zone_name};
@@ -52,7 +53,7 @@ pub fn tz_rule_text(
     let Some(rule) = rule_of_lists(fixed, alternate) else {
         return NO_RULE;
     };
-    match TzString::from_rule(&rule.rule()) {
+    match TzString::from_rule(&rule_of(rule)) {
         Some(string) => write_text(string.as_str().as_bytes(), text, len),
         None => NO_TZ_STRING,
     }

@@ -7,7 +7,7 @@ use crate::proved::tz_c::codes::{
 use crate::proved::tz_c::zone_data::ZoneData;
 use tz::proved::tz_rule::inner::{AlternateData, DayData, RuleRef, find_local_time_type};
 use tz::proved::tz_rule::timezone::{
-    Julian0WithLeap, Julian1WithoutLeap, LocalTimeType, MonthWeekDay, RuleDay,
+    AlternateTime, Julian0WithLeap, Julian1WithoutLeap, LocalTimeType, MonthWeekDay, RuleDay,
 };
 use tz::proved::tz_zone::inner::{self, effect, leap};
 use tz::proved::tz_zone::timezone::{Change, LeapSecond, Segment, Transition};
@@ -88,16 +88,16 @@ pub fn tz_alternate_new(
     dst_end_time: i32,
     out: &mut AlternateData,
 ) -> u32 {
-    match AlternateData::new(
+    match AlternateTime::new(
         *std,
         *dst,
-        *dst_start,
+        dst_start.day(),
         dst_start_time,
-        *dst_end,
+        dst_end.day(),
         dst_end_time,
     ) {
-        Ok(clock) => {
-            *out = clock;
+        Ok(rule) => {
+            *out = *AlternateData::of(&rule);
             OK
         }
         Err(error) => rule_code(error),
@@ -115,12 +115,12 @@ pub fn tz_alternate_conflict(
     dst_end_time: i32,
     out: &mut ConflictData,
 ) -> u32 {
-    match AlternateData::conflict(
+    match AlternateTime::conflict(
         *std,
         *dst,
-        *dst_start,
+        dst_start.day(),
         dst_start_time,
-        *dst_end,
+        dst_end.day(),
         dst_end_time,
     ) {
         Some((first_year, second_year, distance)) => {

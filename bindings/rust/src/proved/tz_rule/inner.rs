@@ -9,10 +9,6 @@ pub use crate::proved::tz_rule::timezone::rule_changes::RuleChange;
 pub use crate::proved::tz_rule::timezone::rule_changes::{change_after, change_up_to};
 #[cfg(feature = "inner")]
 pub use crate::proved::tz_rule::timezone::rule_day::DayData;
-#[cfg(feature = "inner")]
-pub use crate::proved::tz_rule::timezone::transition_rule::{
-    RuleData, end, parts_are_sound, start,
-};
 pub use crate::proved::tz_rule::timezone::transition_rule::{
     RuleRef, find_local_time_type, segment_at,
 };

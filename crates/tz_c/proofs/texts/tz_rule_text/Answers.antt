@@ -7,4 +7,4 @@ returns-in-None-clause-answer c =
     let text = c.args.text.now in
     let some = c.in-Some.ensures in
     subst (λ (o : Option TransitionRule). IsRuleTextAnswer o 6 text text c.args.len.now) (sym some)
-    (inl (refl, rw c.rule.ensures at c.in-None.ensures.none))
+    (inl (refl, rw c.rule_of.ensures at c.in-None.ensures.none))

@@ -7,7 +7,7 @@ use Rattle.tz_rule.proofs.laws.far_starts_and_ends_are_over_or_to_come.Goals as 
 pub returns : goal.returns
 returns c =
     let r = c.args.rule.now in
-    let sound = rw c.plain.ensures at c.parts_are_sound.ensures in
+    let sound = rw c.of.ensures at c.parts_are_sound.ensures in
     let yf = IsYearly-start_of r sound.rule.in_range sound.days.start_is in
     let yg = IsYearly-end_of r sound.rule.in_range sound.days.end_is in
     record {

@@ -6,7 +6,7 @@ use Rattle.tz_rule.proofs.laws.starts_and_ends_are_near.Goals as goal
 pub returns : goal.returns
 returns c =
     let r = c.args.rule.now in
-    let sound = rw c.plain.ensures at c.parts_are_sound.ensures in
+    let sound = rw c.of.ensures at c.parts_are_sound.ensures in
     let range = sound.rule.in_range in
     let days = sound.days in
     record {

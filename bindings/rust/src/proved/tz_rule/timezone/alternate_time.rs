@@ -148,9 +148,21 @@ impl AlternateTime {
         dst_end: RuleDay,
         dst_end_time: i32,
     ) -> Option<(i32, i32, i32)> {
-        let start = DayData::of(&dst_start);
-        let end = DayData::of(&dst_end);
-        AlternateData::conflict(std, dst, start, dst_start_time, end, dst_end_time)
+        let parts = Parts {
+            std,
+            dst,
+            dst_start: DayData::of(&dst_start),
+            dst_start_time,
+            dst_end: DayData::of(&dst_end),
+            dst_end_time,
+        };
+        match parts.check_range() {
+            Ok(()) => {}
+            Err(_) => return None,
+        }
+        let starts = parts.starts(&dst_start);
+        let ends = parts.ends(&dst_end);
+        starts.conflict(&ends)
     }
 
     /// The type of standard time.
@@ -189,21 +201,6 @@ impl AlternateTime {
     #[must_use]
     pub const fn dst_end_time(&self) -> i32 {
         self.plain.dst_end_time()
-    }
-
-    /// The rule of its data.
-    #[cfg(feature = "inner")]
-    pub(crate) fn of_plain(plain: &AlternateData) -> Self {
-        AlternateTime {
-            plain: *plain,
-            dst_start: plain.dst_start().day(),
-            dst_end: plain.dst_end().day(),
-        }
-    }
-
-    /// The rule as plain data, with its tables.
-    pub(crate) const fn plain(&self) -> &AlternateData {
-        &self.plain
     }
 }
 
@@ -257,27 +254,10 @@ pub struct AlternateData {
 }
 
 impl AlternateData {
-    /// The rule with these parts, as `AlternateTime::new` makes it.
-    #[cfg(feature = "inner")]
-    pub const fn new(
-        std: LocalTimeType,
-        dst: LocalTimeType,
-        dst_start: DayData,
-        dst_start_time: i32,
-        dst_end: DayData,
-        dst_end_time: i32,
-    ) -> Result<Self, TransitionRuleError> {
-        match AlternateTime::new(
-            std,
-            dst,
-            dst_start.day(),
-            dst_start_time,
-            dst_end.day(),
-            dst_end_time,
-        ) {
-            Ok(rule) => Ok(*rule.plain()),
-            Err(error) => Err(error),
-        }
+    /// The data of a rule.
+    #[must_use]
+    pub const fn of(rule: &AlternateTime) -> &Self {
+        &rule.plain
     }
 
     /// The rule of parts in range with their tables, whose starts and ends keep their order.
@@ -294,33 +274,6 @@ impl AlternateData {
             starts,
             ends,
         }
-    }
-
-    /// Why parts in range make no rule, as `AlternateTime::conflict` says it.
-    #[must_use]
-    pub const fn conflict(
-        std: LocalTimeType,
-        dst: LocalTimeType,
-        dst_start: DayData,
-        dst_start_time: i32,
-        dst_end: DayData,
-        dst_end_time: i32,
-    ) -> Option<(i32, i32, i32)> {
-        let parts = Parts {
-            std,
-            dst,
-            dst_start,
-            dst_start_time,
-            dst_end,
-            dst_end_time,
-        };
-        match parts.check_range() {
-            Ok(()) => {}
-            Err(_) => return None,
-        }
-        let starts = parts.starts(&dst_start.day());
-        let ends = parts.ends(&dst_end.day());
-        starts.conflict(&ends)
     }
 
     /// The rule whose bytes are all zero: UTC without a name all year.
@@ -406,7 +359,7 @@ impl AlternateData {
 
     /// The parts are those of a valid rule. This does nothing; its contract is what holds of every
     /// value.
-    pub(crate) const fn parts_are_sound(&self) {
+    pub const fn parts_are_sound(&self) {
         let _ = &self.parts;
     }
 }

@@ -276,6 +276,7 @@ impl DayData {
     }
 
     /// The rule day with these numbers.
+    #[cfg(feature = "inner")]
     #[must_use]
     pub const fn day(&self) -> RuleDay {
         match self.kind {

@@ -5,7 +5,6 @@ use super::alternate_time::AlternateData;
 use super::rule_segments::RuleSegment;
 use super::{AlternateTime, LocalTimeType};
 use crate::proved::tz_base::error::TzError;
-use core::hash::{Hash, Hasher};
 
 /// The local time of a zone after its last transition.
 #[derive(Clone, Copy, Debug)]
@@ -28,60 +27,6 @@ impl PartialEq for TransitionRule {
 
 impl Eq for TransitionRule {}
 
-impl Hash for TransitionRule {
-    fn hash<H: Hasher>(&self, state: &mut H) {
-        match self {
-            TransitionRule::Fixed(local_time_type) => {
-                state.write_u8(0);
-                local_time_type.hash(state);
-            }
-            TransitionRule::Alternate(rule) => {
-                state.write_u8(1);
-                rule.hash(state);
-            }
-        }
-    }
-}
-
-/// A rule, or none, in C's layout. What its kind does not use is zero.
-#[cfg(feature = "inner")]
-#[repr(C)]
-#[derive(Clone, Copy)]
-pub struct RuleData {
-    /// 0: no rule, 1: a fixed type, 2: an alternate rule.
-    pub kind: u32,
-    /// The fixed type.
-    pub fixed: LocalTimeType,
-    /// The alternate rule.
-    pub alternate: AlternateData,
-}
-
-#[cfg(feature = "inner")]
-impl RuleData {
-    /// The data of a rule, or of none.
-    #[inline]
-    #[must_use]
-    pub const fn of(rule: &Option<TransitionRule>) -> Self {
-        match rule {
-            None => RuleData {
-                kind: 0,
-                fixed: LocalTimeType::utc(),
-                alternate: AlternateData::zeros(),
-            },
-            Some(TransitionRule::Fixed(local_time_type)) => RuleData {
-                kind: 1,
-                fixed: *local_time_type,
-                alternate: AlternateData::zeros(),
-            },
-            Some(TransitionRule::Alternate(rule)) => RuleData {
-                kind: 2,
-                fixed: LocalTimeType::utc(),
-                alternate: *rule.plain(),
-            },
-        }
-    }
-}
-
 /// A rule that is lent: a fixed type, or the data of an alternate rule.
 #[derive(Clone, Copy)]
 pub enum RuleRef<'a> {
@@ -98,33 +43,9 @@ impl<'a> RuleRef<'a> {
     pub const fn of(rule: &'a TransitionRule) -> RuleRef<'a> {
         match rule {
             TransitionRule::Fixed(local_time_type) => RuleRef::Fixed(local_time_type),
-            TransitionRule::Alternate(rule) => RuleRef::Alternate(rule.plain()),
+            TransitionRule::Alternate(rule) => RuleRef::Alternate(AlternateData::of(rule)),
         }
     }
-
-    /// The rule that is lent.
-    #[cfg(feature = "inner")]
-    #[must_use]
-    pub fn rule(self) -> TransitionRule {
-        match self {
-            RuleRef::Fixed(local_time_type) => TransitionRule::Fixed(*local_time_type),
-            RuleRef::Alternate(plain) => TransitionRule::Alternate(AlternateTime::of_plain(plain)),
-        }
-    }
-}
-
-/// The instant at which daylight saving time starts in a year.
-#[cfg(feature = "inner")]
-#[must_use]
-pub fn start(rule: &AlternateTime, year: i32) -> i64 {
-    rule.plain().switch_in(false, year)
-}
-
-/// The instant at which daylight saving time ends in a year.
-#[cfg(feature = "inner")]
-#[must_use]
-pub fn end(rule: &AlternateTime, year: i32) -> i64 {
-    rule.plain().switch_in(true, year)
 }
 
 /// The segment of the rule around an instant: the first and the last instant through which it has
@@ -152,15 +73,5 @@ pub const fn find_local_time_type<'a>(
     match segment_at(rule, unix_time).local_time_type {
         Some(local_time_type) => Ok(local_time_type),
         None => Err(TzError::OutOfRange),
-    }
-}
-
-/// The rule and its days pass the checks of their constructors. This does nothing; its contract is
-/// what holds of every rule.
-#[cfg(feature = "inner")]
-pub const fn parts_are_sound(rule: RuleRef<'_>) {
-    match rule {
-        RuleRef::Fixed(_) => {}
-        RuleRef::Alternate(rule) => rule.parts_are_sound(),
     }
 }

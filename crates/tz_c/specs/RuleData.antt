@@ -4,7 +4,7 @@ use Rattle.tz_rule.specs.Alternate.{AlternateTime}
 use Rattle.tz_rule.specs.LocalTimeType.{LocalTimeType}
 use Rattle.tz_rule.specs.declared.timezone.transition_rule.TransitionRule.{TransitionRule}
 use Rattle.tz_rule.specs.declared.timezone.transition_rule.TransitionRule.TheVariants.{Fixed, Alternate}
-use Rattle.tz_rule.specs.declared.timezone.transition_rule.RuleData.{RuleData}
+use Rattle.tz_c.specs.declared.rule_data.RuleData.{RuleData}
 
 -- the rule of a kind: none, a fixed type, or an alternate rule; a greater number is no kind
 abbrev pub rule_of_kind : ℕ → LocalTimeType → AlternateTime → Option TransitionRule
