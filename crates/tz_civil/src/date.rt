@@ -1,6 +1,7 @@
 //! Dates: their parts, their numbers, and days later.
 
-ghost use Rattle.tz_civil.specs.Dates.{IsDate};
+ghost use Rattle.std.specs.Prelude.{◌≡◌};
+ghost use Rattle.tz_civil.specs.Dates.{IsDate, date_of};
 
 mod days;
 mod months;
@@ -37,6 +38,14 @@ impl Model for Date {
     ghost invariant = { λ d. IsDate (date_of d.year d.month d.month_day) };
 
     ghost inverse = { λ d. record { year = d.year; month = d.month; month_day = d.month_day } };
+}
+
+/// The year, the month and the day of the month.
+pub const fn parts_of(date: Date) -> (i32, u8, u8)
+    ensures value { date_of result.0 result.1 result.2 ≡ date }
+    ensures date { IsDate date }
+{
+    (date.year, date.month, date.month_day)
 }
 
 /// The number of the first day of all.

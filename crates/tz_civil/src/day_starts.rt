@@ -3,6 +3,7 @@
 ghost use Rattle.std.specs.Prelude.{◌≡◌, ℤ, pos, negsuc, ◌+ℤ◌, ◌-ℤ◌, ◌≤ℤ◌, ◌<ℤ◌, IfOk, IfErr, IfSome, IfNone, MatchOption};
 ghost use Rattle.tz_zone.specs.Clock.{IsClock};
 ghost use Rattle.tz_zone.specs.Table.{Zone};
+ghost use Rattle.tz_zone.specs.ZoneOfData.{zone_of_data};
 ghost use Rattle.tz_zone.specs.ZoneRef.{zone_of};
 ghost use Rattle.tz_civil.specs.Dates.{number_of};
 ghost use Rattle.tz_civil.specs.DayStarts.{HasNotShown, IsDayWindow, IsSkippedDay, IsStartFault, StartsDay, StartsWith, midnight};
@@ -13,13 +14,14 @@ use tz::inner::{WindowTypes, plain, types_of_window};
 use tz_base::constants::SECONDS_PER_DAY;
 use tz_base::error::TzError;
 use tz_base::order::lesser_i64;
+use tz_zone::inner::ZoneData;
 use tz_zone::timezone::{LocalTimeType, TimeZoneRef};
 
 /// An instant, and the type that a clock has there.
 #[derive(Clone, Copy)]
-struct Shown<'a> {
-    unix_time: i64,
-    local_time_type: &'a LocalTimeType,
+pub struct Shown<'a> {
+    pub unix_time: i64,
+    pub local_time_type: &'a LocalTimeType,
 }
 
 /// The instant at which a clock with an offset shows a reading.
@@ -109,17 +111,17 @@ fn first_around<'a>(
 /// The start of a day by the segments of the clock in the day's window.
 #[cold]
 fn first_by_segments<'a>(
-    zone: TimeZoneRef<'a>,
+    zone: &ZoneData<'a>,
     day: i64,
     low: i64,
     high: i64,
 ) -> Result<Option<Shown<'a>>, TzError>
     requires day { (negsuc 784353015832 ≤ℤ day) × (day ≤ℤ pos 784351576776) }
-    requires window { IsDayWindow (zone_of zone) day low high }
+    requires window { IsDayWindow (zone_of_data zone.now) day low high }
     requires small { high ≤ℤ pos 80000000000000000 }
-    ensures ok { IfOk result (λ found. MatchOption found (IsSkippedDay (zone_of zone.entry) day)
-        (λ s. StartsWith (zone_of zone.entry) day s.unix_time s.local_time_type.now)) }
-    ensures err { IfErr result (IsStartFault (zone_of zone.entry) day) }
+    ensures ok { IfOk result (λ found. MatchOption found (IsSkippedDay (zone_of_data zone.now) day)
+        (λ s. StartsWith (zone_of_data zone.now) day s.unix_time s.local_time_type.now)) }
+    ensures err { IfErr result (IsStartFault (zone_of_data zone.now) day) }
 {
     let mut has_type = false;
     let mut at = low;
@@ -148,17 +150,16 @@ fn first_by_segments<'a>(
 }
 
 /// The start of a day, by its number, with the type that the clock has there.
-fn first_of_day<'a>(zone: TimeZoneRef<'a>, day: i64) -> Result<Option<Shown<'a>>, TzError>
+pub fn first_of_day<'a>(zone: &ZoneData<'a>, day: i64) -> Result<Option<Shown<'a>>, TzError>
     requires { (negsuc 784353015832 ≤ℤ day) × (day ≤ℤ pos 784351576776) }
-    ensures ok { IfOk result (λ found. MatchOption found (IsSkippedDay (zone_of zone.entry) day)
-        (λ s. StartsWith (zone_of zone.entry) day s.unix_time s.local_time_type.now)) }
-    ensures err { IfErr result (IsStartFault (zone_of zone.entry) day) }
+    ensures ok { IfOk result (λ found. MatchOption found (IsSkippedDay (zone_of_data zone.now) day)
+        (λ s. StartsWith (zone_of_data zone.now) day s.unix_time s.local_time_type.now)) }
+    ensures err { IfErr result (IsStartFault (zone_of_data zone.now) day) }
 {
-    let parts = plain(&zone);
-    let (least, greatest) = parts.offsets();
+    let (least, greatest) = zone.offsets();
     let first_reading = SECONDS_PER_DAY * day;
     let (low, high) = window(first_reading, least, greatest);
-    match types_of_window(&parts, low, high) {
+    match types_of_window(zone, low, high) {
         WindowTypes::One(local_time_type) => Ok(Some(Shown {
             unix_time: instant_of(first_reading, local_time_type.ut_offset()),
             local_time_type,
@@ -190,7 +191,7 @@ pub fn start_of_day(zone: &TimeZoneRef<'_>, date: Date) -> Result<Option<DateTim
         (StartsDay (zone_of zone.now) (number_of date))) }
     ensures err { IfErr result (IsStartFault (zone_of zone.now) (number_of date)) }
 {
-    let found = first_of_day(*zone, date.day_number())?;
+    let found = first_of_day(&plain(zone), date.day_number())?;
     let Some(shown) = found else {
         return Ok(None);
     };

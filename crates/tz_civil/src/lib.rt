@@ -5,6 +5,7 @@
 pub mod calendar;
 mod date;
 mod day_starts;
+pub mod inner;
 pub mod laws;
 
 pub use date::{Date, WeekDate};

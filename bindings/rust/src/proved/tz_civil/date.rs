@@ -25,6 +25,13 @@ pub struct Date {
     month_day: u8,
 }
 
+/// The year, the month and the day of the month.
+#[cfg(feature = "inner")]
+#[must_use]
+pub const fn parts_of(date: Date) -> (i32, u8, u8) {
+    (date.year, date.month, date.month_day)
+}
+
 /// The number of the first day of all.
 const FIRST_DAY: i64 = -784_353_015_833;
 

@@ -7,13 +7,14 @@ use crate::proved::tz_base::constants::SECONDS_PER_DAY;
 use crate::proved::tz_base::error::TzError;
 use crate::proved::tz_base::order::lesser_i64;
 use crate::proved::tz_civil::Date;
+use crate::proved::tz_zone::inner::ZoneData;
 use crate::proved::tz_zone::timezone::{LocalTimeType, TimeZoneRef};
 
 /// An instant, and the type that a clock has there.
 #[derive(Clone, Copy)]
-struct Shown<'a> {
-    unix_time: i64,
-    local_time_type: &'a LocalTimeType,
+pub struct Shown<'a> {
+    pub unix_time: i64,
+    pub local_time_type: &'a LocalTimeType,
 }
 
 /// The instant at which a clock with an offset shows a reading.
@@ -77,7 +78,7 @@ const fn first_around<'a>(
 /// The start of a day by the segments of the clock in the day's window.
 #[cold]
 const fn first_by_segments<'a>(
-    zone: TimeZoneRef<'a>,
+    zone: &ZoneData<'a>,
     day: i64,
     low: i64,
     high: i64,
@@ -109,12 +110,11 @@ const fn first_by_segments<'a>(
 }
 
 /// The start of a day, by its number, with the type that the clock has there.
-const fn first_of_day<'a>(zone: TimeZoneRef<'a>, day: i64) -> Result<Option<Shown<'a>>, TzError> {
-    let parts = plain(&zone);
-    let (least, greatest) = parts.offsets();
+pub const fn first_of_day<'a>(zone: &ZoneData<'a>, day: i64) -> Result<Option<Shown<'a>>, TzError> {
+    let (least, greatest) = zone.offsets();
     let first_reading = SECONDS_PER_DAY * day;
     let (low, high) = window(first_reading, least, greatest);
-    match types_of_window(&parts, low, high) {
+    match types_of_window(zone, low, high) {
         WindowTypes::One(local_time_type) => Ok(Some(Shown {
             unix_time: instant_of(first_reading, local_time_type.ut_offset()),
             local_time_type,
@@ -136,7 +136,7 @@ const fn first_of_day<'a>(zone: TimeZoneRef<'a>, day: i64) -> Result<Option<Show
 }
 
 pub const fn start_of_day(zone: &TimeZoneRef<'_>, date: Date) -> Result<Option<DateTime>, TzError> {
-    let found = match first_of_day(*zone, date.day_number()) {
+    let found = match first_of_day(&plain(zone), date.day_number()) {
         Ok(value) => value,
         Err(error) => return Err(error),
     };

@@ -4,7 +4,7 @@ use Rattle.std.specs.Option.{option_copied}
 use Rattle.std.proofs.lemmas.Int.{ints, clamps, to_z-of_z}
 use mir.Syntax.{w64}
 use Rattle.tz_zone.specs.Changes.{segment_of}
-use Rattle.tz_zone.specs.ZoneRef.{zone_of}
+use Rattle.tz_zone.specs.ZoneOfData.{zone_of_data}
 use Rattle.tz.proofs.EntryWalks.{room_less}
 use Rattle.tz_civil.proofs.DayWalks.{IsWalked, fits_from_bounds, skips, starts, through, walk_begins, walked_none, walked_some, window_order}
 use Rattle.tz_civil.proofs.day_starts.first_by_segments.Goals as goal
@@ -12,7 +12,7 @@ use Rattle.tz_civil.proofs.day_starts.first_by_segments.Goals.{in-Some+in_defaul
 
 pub loop-at-init : goal.loop-at-init
 loop-at-init c =
-    let z = zone_of c.args.zone in
+    let z = zone_of_data c.args.zone.now in
     let day = c.args.day in
     let low = c.args.low in
     let high = c.args.high in
@@ -35,7 +35,7 @@ first_shown-requires-clause-order c =
 
 pub returns-in-Some-first_shown-clause-ok : goal.returns-in-Some-first_shown-clause-ok
 returns-in-Some-first_shown-clause-ok c =
-    let z = zone_of c.args.zone in
+    let z = zone_of_data c.args.zone.now in
     let day = c.args.day in
     let low = c.args.low in
     let high = c.args.high in
@@ -90,7 +90,7 @@ loop-at-smaller c =
 
 pub loop-at-preserved : goal.loop-at-preserved
 loop-at-preserved c =
-    let z = zone_of c.args.zone in
+    let z = zone_of_data c.args.zone.now in
     let day = c.args.day in
     let low = c.args.low in
     let high = c.args.high in
@@ -139,7 +139,7 @@ loop-at-preserved c =
 
 pub returns-then-has_type-clause-ok : goal.returns-then-has_type-clause-ok
 returns-then-has_type-clause-ok c =
-    let z = zone_of c.args.zone in
+    let z = zone_of_data c.args.zone.now in
     let day = c.args.day in
     let low = c.args.low in
     let high = c.args.high in
@@ -153,7 +153,7 @@ returns-then-has_type-clause-ok c =
 
 pub returns-in-Ok-clause-ok : goal.returns-in-Ok-clause-ok
 returns-in-Ok-clause-ok c =
-    let z = zone_of c.args.zone in
+    let z = zone_of_data c.args.zone.now in
     let day = c.args.day in
     let low = c.args.low in
     let high = c.args.high in
@@ -168,7 +168,7 @@ returns-in-Ok-clause-ok c =
 
 pub returns-in-Err-clause-err : goal.returns-in-Err-clause-err
 returns-in-Err-clause-err c =
-    let z = zone_of c.args.zone in
+    let z = zone_of_data c.args.zone.now in
     let day = c.args.day in
     let low = c.args.low in
     let high = c.args.high in

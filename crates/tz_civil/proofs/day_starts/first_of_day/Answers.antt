@@ -5,7 +5,7 @@ use mir.Syntax.{w32, w64}
 use Rattle.tz_zone.specs.Clock.{IsClock}
 use Rattle.tz_zone.specs.Offsets.{AreEndOffsets}
 use Rattle.tz_zone.specs.Table.{Zone}
-use Rattle.tz_zone.specs.ZoneRef.{zone_of}
+use Rattle.tz_zone.specs.ZoneOfData.{zone_of_data}
 use Rattle.tz_civil.specs.DayStarts.{midnight}
 use Rattle.tz_civil.proofs.CivilDates.{MatchOption_then}
 use Rattle.tz_civil.proofs.DayWalks.{fits_from_bounds, not_shown_before, skips, starts_at_midnight, window_of_day, window_order}
@@ -13,10 +13,10 @@ use Rattle.tz_civil.proofs.day_starts.first_of_day.Goals as goal
 
 pub first_by_segments-requires-clause-window : goal.first_by_segments-requires-clause-window
 first_by_segments-requires-clause-window c =
-    let z = zone_of c.args.zone in
+    let z = zone_of_data c.args.zone.now in
     let day = c.args.day in
     let o = c.offsets-least.result in
-    let ends = subst (λ (x : Zone). AreEndOffsets x o.0 o.1) c.plain-parts.ensures c.offsets-least.ensures in
+    let ends = c.offsets-least.ensures in
     let low = c.window-low.result.0 in
     let high = c.window-low.result.1 in
     let low_is : low ≡ midnight day -ℤ o.1 = omega (arith, ints, c.window-low.ensures.low, c.requires) in
@@ -29,10 +29,10 @@ first_by_segments-requires-clause-window c =
 
 pub returns-in-One-clause-ok : goal.returns-in-One-clause-ok
 returns-in-One-clause-ok c =
-    let z = zone_of c.args.zone in
+    let z = zone_of_data c.args.zone.now in
     let day = c.args.day in
     let o = c.offsets-least.result in
-    let ends = subst (λ (x : Zone). AreEndOffsets x o.0 o.1) c.plain-parts.ensures c.offsets-least.ensures in
+    let ends = c.offsets-least.ensures in
     let low = c.window-low.result.0 in
     let high = c.window-low.result.1 in
     let low_is : low ≡ midnight day -ℤ o.1 = omega (arith, ints, c.window-low.ensures.low, c.requires) in
@@ -53,15 +53,14 @@ returns-in-One-clause-ok c =
       c.ut_offset.ensures.value,
     ) at c.instant_of.ensures in
     rw (to_z-of_z w64 u (search rules))
-    (starts_at_midnight z day low high u t window
-    (λ v from to. subst (λ (x : Zone). IsClock x v t) c.plain-parts.ensures (types v from to)) at)
+    (starts_at_midnight z day low high u t window types at)
 
 pub returns-in-Two-clause-ok : goal.returns-in-Two-clause-ok
 returns-in-Two-clause-ok c =
-    let z = zone_of c.args.zone in
+    let z = zone_of_data c.args.zone.now in
     let day = c.args.day in
     let o = c.offsets-least.result in
-    let ends = subst (λ (x : Zone). AreEndOffsets x o.0 o.1) c.plain-parts.ensures c.offsets-least.ensures in
+    let ends = c.offsets-least.ensures in
     let low = c.window-low.result.0 in
     let high = c.window-low.result.1 in
     let low_is : low ≡ midnight day -ℤ o.1 = omega (arith, ints, c.window-low.ensures.low, c.requires) in
@@ -73,9 +72,9 @@ returns-in-Two-clause-ok c =
     let types = rw (low_cast, high_cast) at c.in-Two.ensures.types in
     let jump = c.in-Two.unix_time in
     let before : (v : ℤ) → low ≤ℤ v → v <ℤ jump → IsClock z v c.in-Two.before.now =
-    λ v from to. subst (λ (x : Zone). IsClock x v c.in-Two.before.now) c.plain-parts.ensures (types.2 v from to) in
+    types.2 in
     let after : (v : ℤ) → jump ≤ℤ v → v ≤ℤ high → IsClock z v c.in-Two.after.now =
-    λ v from to. subst (λ (x : Zone). IsClock x v c.in-Two.after.now) c.plain-parts.ensures (types.3 v from to) in
+    types.3 in
     let around = rw (low_cast, to_z-of_z w64 jump (search rules), high_cast) at c.first_around.ensures in
     MatchOption_then c.first_around.result _ _ _
     (around z day (omega (arith, ints, c.requires)) (not_shown_before z day low high window) before after)

@@ -9,6 +9,7 @@ use crate::proved::tz_base::calendar::{first_day_of_year, is_leap_year, week_day
 /// day. (ISO 8601)
 ///
 /// Any numbers can stand in it: [`Date::from_week_date`] returns `None` if there is no such date.
+#[repr(C)]
 #[derive(Clone, Copy, Debug, PartialEq, Eq, PartialOrd, Ord, Hash)]
 pub struct WeekDate {
     /// The year to which the week belongs.
