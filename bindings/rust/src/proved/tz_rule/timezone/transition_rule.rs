@@ -5,6 +5,7 @@ use super::alternate_time::AlternateData;
 use super::rule_segments::RuleSegment;
 use super::{AlternateTime, LocalTimeType};
 use crate::proved::tz_base::error::TzError;
+use core::hash::{Hash, Hasher};
 
 /// The local time of a zone after its last transition.
 #[derive(Clone, Copy, Debug)]
@@ -26,6 +27,21 @@ impl PartialEq for TransitionRule {
 }
 
 impl Eq for TransitionRule {}
+
+impl Hash for TransitionRule {
+    fn hash<H: Hasher>(&self, state: &mut H) {
+        match self {
+            TransitionRule::Fixed(local_time_type) => {
+                state.write_u8(0);
+                local_time_type.hash(state);
+            }
+            TransitionRule::Alternate(rule) => {
+                state.write_u8(1);
+                rule.hash(state);
+            }
+        }
+    }
+}
 
 /// A rule that is lent: a fixed type, or the data of an alternate rule.
 #[derive(Clone, Copy)]
