@@ -45,7 +45,7 @@ unfolding greatest_entry
 greatest_entry-next table kinds = let e : kinds + 1 ≡ suc kinds = omega arith in rw e refl
 
 -- the bounds of a table's first entries hold for each of them
-least_entry-le : (table : List ℤ) (kinds kind : ℕ) → kind < kinds → least_entry table kinds ≤ℤ entry table kind
+pub least_entry-le : (table : List ℤ) (kinds kind : ℕ) → kind < kinds → least_entry table kinds ≤ℤ entry table kind
 unfolding least_entry
 least_entry-le table zero kind below = absurd (omega arith)
 least_entry-le table (suc kinds) kind below = elim (cases_lt kind kinds) [
@@ -59,7 +59,8 @@ least_entry-le table (suc kinds) kind below = elim (cases_lt kind kinds) [
       omega (arith, ints, ap (entry table) same, int_min_is (least_entry table kinds) (entry table kinds))
 ]
 
-greatest_entry-ge : (table : List ℤ) (kinds kind : ℕ) → kind < kinds → entry table kind ≤ℤ greatest_entry table kinds
+pub greatest_entry-ge : (table : List ℤ) (kinds kind : ℕ) → kind < kinds
+    → entry table kind ≤ℤ greatest_entry table kinds
 unfolding greatest_entry
 greatest_entry-ge table zero kind below = absurd (omega arith)
 greatest_entry-ge table (suc kinds) kind below = elim (cases_lt kind kinds) [

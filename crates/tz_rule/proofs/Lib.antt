@@ -11,6 +11,7 @@ pub mod PairKinds
 pub mod OrderByTables
 pub mod PairTables
 pub mod ApartBounds
+pub mod SpansOfDays
 pub mod TablesOfDays
 pub mod WeakerClauses
 pub mod RuleConflicts

@@ -1,16 +1,16 @@
 -- The table of a day is made of its days in the years of each kind.
-use Rattle.tz_rule.proofs.Common.{arith, ◌≡◌, pos, ◌∙◌, ℕ, refl, ◌+ℤ◌, ℤ, sym, ◌<◌, ap, ◌+◌, ◌-◌, Bool, inl, inr, true, entry, false, List, get_or, year_day_of, length, day_table, ◌*◌, RuleDay, cases_lt, kind_of, seconds_in_kind, fill_by_all}
+use Rattle.tz_rule.proofs.Common.{arith, ◌≡◌, pos, ◌∙◌, ℕ, refl, ◌+ℤ◌, ℤ, sym, ◌<◌, ap, ◌+◌, ◌-◌, Bool, inl, inr, true, entry, false, List, year_day_of, length, day_table, ◌*◌, RuleDay, cases_lt, kind_of, seconds_in_kind, fill_by_all}
 use Rattle.tz_rule.proofs.PairKinds.{kind_of-parts}
 
 seconds_in_kind-is : (d : RuleDay) (seconds : ℤ) (leap : Bool) (w : ℕ) → w < 7
     → seconds_in_kind d seconds (kind_of leap w) ≡ pos (86400 * year_day_of d leap w) +ℤ seconds
 seconds_in_kind-is d seconds leap w below = let parts = kind_of-parts leap w below in rw (parts.1, parts.2) refl
 
-pub day_table-from : (d : RuleDay) (seconds : ℤ) (entries : List ℤ) (normal leap : List ℕ) → length entries ≡ 14
-    → ((k : ℕ) → k < 7 → entry entries k ≡ pos (86400 * get_or normal k 0) +ℤ seconds)
-    → ((k : ℕ) → k < 7 → entry entries (7 + k) ≡ pos (86400 * get_or leap k 0) +ℤ seconds)
-    → ((w : ℕ) → w < 7 → get_or normal w 0 ≡ year_day_of d false w)
-    → ((w : ℕ) → w < 7 → get_or leap w 0 ≡ year_day_of d true w)
+pub day_table-from : (d : RuleDay) (seconds : ℤ) (entries : List ℤ) (normal leap : ℕ → ℕ) → length entries ≡ 14
+    → ((k : ℕ) → k < 7 → entry entries k ≡ pos (86400 * normal k) +ℤ seconds)
+    → ((k : ℕ) → k < 7 → entry entries (7 + k) ≡ pos (86400 * leap k) +ℤ seconds)
+    → ((w : ℕ) → w < 7 → normal w ≡ year_day_of d false w)
+    → ((w : ℕ) → w < 7 → leap w ≡ year_day_of d true w)
     → entries ≡ day_table d seconds
 unfolding day_table
 day_table-from d seconds entries normal leap size normal_made leap_made normal_is leap_is =

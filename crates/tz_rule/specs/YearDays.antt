@@ -28,3 +28,9 @@ year_day_of (MonthWeekDay d) leap week_day =
     let before = months_length leap (d.month - 1) in
     before + week_day_in_month ((week_day + before) % 7) (month_length leap d.month) d.week
     d.week_day
+
+-- how many days a rule day is later than the first day that it may be. A day that has no week day
+-- is at that one. Of a week day the places from 7 on are those of week days of January 1st that
+-- follow one another: it is a day earlier if the year begins one week day later.
+unfoldable pub days_later : ℕ → ℕ
+days_later place = if nat_lt place 7 then 0 else (20 - place) % 7

@@ -58,6 +58,11 @@ unfoldable pub greatest_entry : List ℤ → ℕ → ℤ
 greatest_entry table zero = negsuc 2147483647
 greatest_entry table (suc kinds) = int_max (greatest_entry table kinds) (entry table kinds)
 
+-- both are those of all kinds
+abbrev pub AreExactBounds : List ℤ → ℤ → ℤ → Type 0
+AreExactBounds table least greatest = (least ≡ least_entry table 14)
+    × (greatest ≡ greatest_entry table 14)
+
 -- in all years the instant is ten days or more from the ends of the year, also if that has 365 days
 abbrev pub is_inner : List ℤ → Bool
 is_inner table = int_le (pos 864000) (least_entry table 14) && int_lt (greatest_entry table 14)

@@ -10,7 +10,7 @@ ghost use Rattle.tz_rule.specs.YearTables.{IsTableOf};
 ghost use Rattle.tz_rule.specs.ZeroRule.{zero_rule};
 
 use super::rule_day::DayData;
-use super::year_table::YearTable;
+use super::year_table::{BoundedTable, YearTable};
 use super::{LocalTimeType, RuleDay};
 use std::fmt;
 use std::hash::{Hash, Hasher};
@@ -46,7 +46,7 @@ pub(super) struct Parts {
 impl Parts {
     ghost use Rattle.tz_rule.specs.Parts.{rule_of};
     ghost use Rattle.tz_rule.specs.RuleDays.{IsRuleDay};
-    ghost use Rattle.tz_rule.specs.YearTables.{start_table, end_table};
+    ghost use Rattle.tz_rule.specs.YearTables.{AreExactBounds, start_table, end_table};
 
     /// Checks the offsets and the times, in the order of their errors.
     pub(super) const fn check_range(&self) -> Result<(), TransitionRuleError>
@@ -67,24 +67,26 @@ impl Parts {
 
     /// How many seconds after 00:00 UTC of January 1st daylight saving time starts, by the kind of
     /// the year. `day` is the part `dst_start` as a `RuleDay`, which saves its conversion.
-    pub(super) const fn starts(&self, day: &RuleDay) -> YearTable
+    pub(super) const fn starts(&self, day: &RuleDay) -> BoundedTable
         requires range { IsInRuleRange (rule_of self.now) }
         requires day { day.now ≡ (rule_of self.now).dst_start }
-        ensures table { result.0 ≡ start_table (rule_of self.now) }
+        ensures table { result.table.0 ≡ start_table (rule_of self.now) }
+        ensures bounds { AreExactBounds result.table.0 result.least result.greatest }
         ensures day { IsRuleDay (rule_of self.now).dst_start }
     {
-        YearTable::of_day(day, self.dst_start_time - self.std.ut_offset())
+        BoundedTable::of_day(day, self.dst_start_time - self.std.ut_offset())
     }
 
     /// How many seconds after 00:00 UTC of January 1st it ends, by the kind of the year. `day` is
     /// the part `dst_end`.
-    pub(super) const fn ends(&self, day: &RuleDay) -> YearTable
+    pub(super) const fn ends(&self, day: &RuleDay) -> BoundedTable
         requires range { IsInRuleRange (rule_of self.now) }
         requires day { day.now ≡ (rule_of self.now).dst_end }
-        ensures table { result.0 ≡ end_table (rule_of self.now) }
+        ensures table { result.table.0 ≡ end_table (rule_of self.now) }
+        ensures bounds { AreExactBounds result.table.0 result.least result.greatest }
         ensures day { IsRuleDay (rule_of self.now).dst_end }
     {
-        YearTable::of_day(day, self.dst_end_time - self.dst.ut_offset())
+        BoundedTable::of_day(day, self.dst_end_time - self.dst.ut_offset())
     }
 }
 
@@ -223,7 +225,7 @@ impl AlternateTime {
         }
         let starts = parts.starts(&dst_start);
         let ends = parts.ends(&dst_end);
-        starts.conflict(&ends)
+        starts.table.conflict(&ends.table)
     }
 
     /// The type of standard time.
@@ -361,7 +363,7 @@ impl Model for AlternateData {
 
 impl AlternateData {
     ghost use Rattle.tz_rule.specs.Parts.{rule_of};
-    ghost use Rattle.tz_rule.specs.YearTables.{start_table, end_table, ComesFirst, ChangesOrder};
+    ghost use Rattle.tz_rule.specs.YearTables.{AreExactBounds, start_table, end_table, ComesFirst, ChangesOrder};
 
     /// The data of a rule.
     pub const fn of(rule: &AlternateTime) -> &Self
@@ -373,17 +375,19 @@ impl AlternateData {
     /// The rule of parts in range with their tables, whose starts and ends keep their order.
     pub(super) const fn of_tables(
         parts: Parts,
-        starts: YearTable,
-        ends: YearTable,
+        starts: BoundedTable,
+        ends: BoundedTable,
         ends_next_year: bool,
     ) -> Self
         requires range { IsInRuleRange (rule_of parts) }
         requires days { AreRuleDays (rule_of parts) }
-        requires starts { starts.0 ≡ start_table (rule_of parts) }
-        requires ends { ends.0 ≡ end_table (rule_of parts) }
-        requires order { ¬ ChangesOrder starts.0 ends.0 }
-        requires first { MatchBool ends_next_year (ComesFirst ends.0 starts.0)
-            (¬ ComesFirst ends.0 starts.0) }
+        requires starts { starts.table.0 ≡ start_table (rule_of parts) }
+        requires ends { ends.table.0 ≡ end_table (rule_of parts) }
+        requires start_bounds { AreExactBounds starts.table.0 starts.least starts.greatest }
+        requires end_bounds { AreExactBounds ends.table.0 ends.least ends.greatest }
+        requires order { ¬ ChangesOrder starts.table.0 ends.table.0 }
+        requires first { MatchBool ends_next_year (ComesFirst ends.table.0 starts.table.0)
+            (¬ ComesFirst ends.table.0 starts.table.0) }
         ensures value { result ≡ rule_of parts }
         ensures ok { IsConsistentRule (rule_of parts) }
     {
@@ -391,8 +395,8 @@ impl AlternateData {
             parts,
             ends_next_year,
             has_inner_switches: starts.is_inner() && ends.is_inner(),
-            starts,
-            ends,
+            starts: starts.table,
+            ends: ends.table,
         }
     }
 

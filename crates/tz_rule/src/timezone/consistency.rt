@@ -7,9 +7,9 @@
 ghost use Rattle.std.specs.Prelude.{◌≡◌, ◌<◌, ◌≤◌, ℤ, pos, ◌+ℤ◌, ◌≤ℤ◌, ◌<ℤ◌, IfSome, IfNone, MatchBool};
 ghost use Rattle.tz_rule.specs.Kinds.{first_kind as first_kind_of, second_kind as second_kind_of, first_days as first_days_of};
 ghost use Rattle.tz_rule.specs.Pairing.{IsConflict};
-ghost use Rattle.tz_rule.specs.YearTables.{instant_in, next_entry, IsNear, ComesFirst, ComesBeforeNext, ComesAfterNext, ChangesAcrossYears, ChangesOrder};
+ghost use Rattle.tz_rule.specs.YearTables.{AreExactBounds, instant_in, next_entry, IsNear, ComesFirst, ComesBeforeNext, ComesAfterNext, ChangesAcrossYears, ChangesOrder};
 
-use super::year_table::{KINDS, YearTable};
+use super::year_table::{BoundedTable, KINDS, YearTable};
 use tz_base::constants::{SECONDS_PER_DAY, SECONDS_PER_NORMAL_YEAR};
 
 /// How many kinds there are of two years that follow one another: from 0 two normal years, from 7 a
@@ -124,49 +124,6 @@ impl YearTable {
         self.comes_before_next(other) && self.comes_after_next(other)
     }
 
-    /// Whether ends come before starts (`self` is the table of starts), if the bounds of both
-    /// tables show that their order never changes; `None` if they do not show it.
-    const fn order_of_bounds(&self, ends: &YearTable) -> Option<bool>
-        ensures { IfSome result (λ first. (¬ ChangesOrder self.now.0 ends.now.0)
-            × MatchBool first (ComesFirst ends.now.0 self.now.0)
-            (¬ ComesFirst ends.now.0 self.now.0)) }
-    {
-        let (first_start, last_start) = self.bounds();
-        let (first_end, last_end) = ends.bounds();
-        // The bounds show an order only if no start comes after the next year's end, and no end
-        // after the next year's start.
-        if last_start as i64 > first_end as i64 + SECONDS_PER_NORMAL_YEAR {
-            return None;
-        }
-        if last_end as i64 > first_start as i64 + SECONDS_PER_NORMAL_YEAR {
-            return None;
-        }
-        if last_start <= first_end {
-            return Some(false);
-        }
-        if last_end < first_start {
-            return Some(true);
-        }
-        None
-    }
-
-    /// Whether the end of some year comes before its start. `None` if starts, of which this is the
-    /// table, and ends change their order.
-    pub(super) const fn order(&self, ends: &YearTable) -> Option<bool>
-        ensures some { IfSome result (λ first. (¬ ChangesOrder self.now.0 ends.now.0)
-            × MatchBool first (ComesFirst ends.now.0 self.now.0)
-            (¬ ComesFirst ends.now.0 self.now.0)) }
-        ensures none { IfNone result (ChangesOrder self.now.0 ends.now.0) }
-    {
-        if let Some(first) = self.order_of_bounds(ends) {
-            return Some(first);
-        }
-        if self.changes_order(ends) {
-            return None;
-        }
-        Some(ends.comes_first(self))
-    }
-
     /// Whether starts, of which this is the table, and ends change their order at some distance in
     /// years. Only the distances 0, 1 and -1 need a look: a start or an end lies less than ten days
     /// outside its year, so from two years on the order never changes.
@@ -238,5 +195,54 @@ impl YearTable {
             return Some(found);
         }
         self.conflict_at(ends, -1)
+    }
+}
+
+impl BoundedTable {
+    /// Whether ends come before starts (`self` is the table of starts), if the bounds of both
+    /// tables show that their order never changes; `None` if they do not show it.
+    const fn order_of_bounds(&self, ends: &BoundedTable) -> Option<bool>
+        requires starts { AreExactBounds self.now.table.0 self.now.least self.now.greatest }
+        requires ends { AreExactBounds ends.now.table.0 ends.now.least ends.now.greatest }
+        ensures { IfSome result (λ first. (¬ ChangesOrder self.now.table.0 ends.now.table.0)
+            × MatchBool first (ComesFirst ends.now.table.0 self.now.table.0)
+            (¬ ComesFirst ends.now.table.0 self.now.table.0)) }
+    {
+        let (first_start, last_start) = (self.least, self.greatest);
+        let (first_end, last_end) = (ends.least, ends.greatest);
+        // The bounds show an order only if no start comes after the next year's end, and no end
+        // after the next year's start.
+        if last_start as i64 > first_end as i64 + SECONDS_PER_NORMAL_YEAR {
+            return None;
+        }
+        if last_end as i64 > first_start as i64 + SECONDS_PER_NORMAL_YEAR {
+            return None;
+        }
+        if last_start <= first_end {
+            return Some(false);
+        }
+        if last_end < first_start {
+            return Some(true);
+        }
+        None
+    }
+
+    /// Whether the end of some year comes before its start. `None` if starts, of which this is the
+    /// table, and ends change their order.
+    pub(super) const fn order(&self, ends: &BoundedTable) -> Option<bool>
+        requires starts { AreExactBounds self.now.table.0 self.now.least self.now.greatest }
+        requires ends { AreExactBounds ends.now.table.0 ends.now.least ends.now.greatest }
+        ensures some { IfSome result (λ first. (¬ ChangesOrder self.now.table.0 ends.now.table.0)
+            × MatchBool first (ComesFirst ends.now.table.0 self.now.table.0)
+            (¬ ComesFirst ends.now.table.0 self.now.table.0)) }
+        ensures none { IfNone result (ChangesOrder self.now.table.0 ends.now.table.0) }
+    {
+        if let Some(first) = self.order_of_bounds(ends) {
+            return Some(first);
+        }
+        if self.table.changes_order(&ends.table) {
+            return None;
+        }
+        Some(ends.table.comes_first(&self.table))
     }
 }

@@ -1,29 +1,16 @@
 //! The days of a year that a rule can name.
 
 ghost use Rattle.tz_base.specs.declared.error.TransitionRuleError.TheVariants as faults;
-ghost use Rattle.std.specs.Prelude.{◌≡◌, ℕ, ◌+◌, ◌-◌, ◌*◌, ◌<◌, ◌≤◌, min, get_or, IfOk, IfErr, OnOk};
+ghost use Rattle.std.specs.Prelude.{◌≡◌, ◌⊎◌, ℕ, ◌+◌, ◌-◌, ◌*◌, ◌<◌, ◌≤◌, min, IfOk, IfErr, OnOk};
 ghost use Rattle.tz_rule.specs.JulianDay.{IsJulianDay, IsZeroBasedDay};
 ghost use Rattle.tz_rule.specs.MonthWeek.{MonthWeek, IsMonthWeek, IsFirstMonthWeekFault, IsRuleWeek, month_week};
-ghost use Rattle.tz_rule.specs.YearDays.{julian_year_day, nth_week_day as nth_week_day_of, year_day_of};
+ghost use Rattle.tz_rule.specs.YearDays.{days_later, julian_year_day, year_day_of};
 ghost use Rattle.tz_rule.specs.ZeroRule.{zero_day};
 
 use std::hash::{Hash, Hasher};
 use std::marker::Model;
 use tz_base::calendar;
 use tz_base::error::TransitionRuleError;
-
-/// The day of a month of this length, counted from 0, on which a week day falls for the w-th time,
-/// or for week 5 for the last time, if it first falls on day `first`.
-const fn nth_week_day(first: u8, days: u8, week: u8) -> u8
-    requires first { first < 7 }
-    requires days { (28 ≤ days) × (days ≤ 31) }
-    requires week { IsRuleWeek week }
-    ensures value { result ≡ nth_week_day_of first days week }
-    ensures bound { result < days }
-{
-    let day = first + 7 * (week - 1);
-    if day < days { day } else { day - 7 }
-}
 
 /// The first of the seven days of a month of this length that a week day's w-th one, or for week 5
 /// its last one, may be, counted from 0.
@@ -34,21 +21,6 @@ const fn least_day(days: u8, week: u8) -> u8
 {
     let (usual, last) = (7 * (week - 1), days - 7);
     if last < usual { last } else { usual }
-}
-
-/// The day of a year that begins one week day later: a day earlier, or the last of the seven days
-/// that it may be if it was the first.
-const fn year_day_before(year_day: u16, least: u16) -> u16
-    requires year_day { (least ≤ year_day) × (year_day ≤ least + 6) }
-    requires bound { least ≤ 366 }
-    ensures first { year_day ≡ least → result ≡ least + 6 }
-    ensures other { least < year_day → result + 1 ≡ year_day }
-{
-    if year_day == least {
-        least + 6
-    } else {
-        year_day - 1
-    }
 }
 
 /// The n-th of a year's days that are not February 29th, from 1 to 365. (POSIX.1-2017, 8.3: `Jn`.)
@@ -233,30 +205,21 @@ impl MonthWeekDay {
         self.week_day
     }
 
-    /// How many days after January 1st the day is in leap years or in the others, for each week day
-    /// of January 1st.
-    ///
-    /// The day is found for a year that begins on a Sunday. If January 1st is one week day later,
-    /// it is one day earlier, or the last of the seven days that it may be if it was the first.
-    const fn year_days(&self, leap: bool) -> [u16; 7]
-        ensures value { (w : ℕ) → w < 7
-            → get_or result w 0 ≡ year_day_of (TheDays.MonthWeekDay self.now) leap w }
-        ensures bound { (w : ℕ) → w < 7 → get_or result w 0 ≤ 365 }
+    /// The first of the seven days that the day may be in leap years or in the others, counted from
+    /// January 1st, and the place of the seven by week days of January 1st (`days_later`).
+    const fn span(&self, leap: bool) -> (u16, usize)
+        ensures value { (w : ℕ) → w < 7 → result.0 + days_later (result.1 + w)
+            ≡ year_day_of (TheDays.MonthWeekDay self.now) leap w }
+        ensures bound { result.0 ≤ 365 }
+        ensures place { (7 ≤ result.1) × (result.1 ≤ 13) }
         ensures range { IsMonthWeek self.now }
     {
         let before = calendar::days_before_month(leap, self.month);
         let days = calendar::days_of_month(leap, self.month);
         let least = before + least_day(days, self.week) as u16;
-        let first = (self.week_day + 7 - (before % 7) as u8) % 7;
-        let mut year_day = before + nth_week_day(first, days, self.week) as u16;
-        let mut year_days = [0; 7];
-        let mut week_day = 0;
-        while week_day < 7 {
-            year_days[week_day] = year_day;
-            year_day = year_day_before(year_day, least);
-            week_day += 1;
-        }
-        year_days
+        // How many days later the day is in a year that begins on a Sunday: 371 is 53 weeks.
+        let later = (self.week_day as u16 + 371 - least) % 7;
+        (least, 13 - later as usize)
     }
 }
 
@@ -328,17 +291,19 @@ impl Hash for RuleDay {
 impl RuleDay {
     ghost use Rattle.tz_rule.specs.RuleDays.{IsRuleDay};
 
-    /// How many days after January 1st the day is in leap years or in the others, for each week day
-    /// of January 1st.
-    pub(super) const fn year_days(&self, leap: bool) -> [u16; 7]
-        ensures value { (w : ℕ) → w < 7 → get_or result w 0 ≡ year_day_of self.now leap w }
-        ensures bound { (w : ℕ) → w < 7 → get_or result w 0 ≤ 365 }
+    /// The first day that the day may be in leap years or in the others, counted from January 1st,
+    /// and the place of those by week days of January 1st (`days_later`).
+    pub(super) const fn span(&self, leap: bool) -> (u16, usize)
+        ensures value { (w : ℕ) → w < 7 → result.0 + days_later (result.1 + w)
+            ≡ year_day_of self.now leap w }
+        ensures bound { result.0 ≤ 365 }
+        ensures place { (result.1 ≡ 0) ⊎ ((7 ≤ result.1) × (result.1 ≤ 13)) }
         ensures range { IsRuleDay self.now }
     {
         match self {
-            RuleDay::Julian1WithoutLeap(day) => [day.year_day(leap); 7],
-            RuleDay::Julian0WithLeap(day) => [day.get(); 7],
-            RuleDay::MonthWeekDay(day) => day.year_days(leap),
+            RuleDay::Julian1WithoutLeap(day) => (day.year_day(leap), 0),
+            RuleDay::Julian0WithLeap(day) => (day.get(), 0),
+            RuleDay::MonthWeekDay(day) => day.span(leap),
         }
     }
 }

@@ -3,7 +3,7 @@
 //! ends.
 
 use super::rule_day::DayData;
-use super::year_table::YearTable;
+use super::year_table::{BoundedTable, YearTable};
 use super::{LocalTimeType, RuleDay};
 use crate::proved::tz_base::error::TransitionRuleError;
 use core::fmt;
@@ -48,14 +48,14 @@ impl Parts {
 
     /// How many seconds after 00:00 UTC of January 1st daylight saving time starts, by the kind of
     /// the year. `day` is the part `dst_start` as a `RuleDay`, which saves its conversion.
-    pub(super) const fn starts(&self, day: &RuleDay) -> YearTable {
-        YearTable::of_day(day, self.dst_start_time - self.std.ut_offset())
+    pub(super) const fn starts(&self, day: &RuleDay) -> BoundedTable {
+        BoundedTable::of_day(day, self.dst_start_time - self.std.ut_offset())
     }
 
     /// How many seconds after 00:00 UTC of January 1st it ends, by the kind of the year. `day` is
     /// the part `dst_end`.
-    pub(super) const fn ends(&self, day: &RuleDay) -> YearTable {
-        YearTable::of_day(day, self.dst_end_time - self.dst.ut_offset())
+    pub(super) const fn ends(&self, day: &RuleDay) -> BoundedTable {
+        BoundedTable::of_day(day, self.dst_end_time - self.dst.ut_offset())
     }
 }
 
@@ -162,7 +162,7 @@ impl AlternateTime {
         }
         let starts = parts.starts(&dst_start);
         let ends = parts.ends(&dst_end);
-        starts.conflict(&ends)
+        starts.table.conflict(&ends.table)
     }
 
     /// The type of standard time.
@@ -263,16 +263,16 @@ impl AlternateData {
     /// The rule of parts in range with their tables, whose starts and ends keep their order.
     pub(super) const fn of_tables(
         parts: Parts,
-        starts: YearTable,
-        ends: YearTable,
+        starts: BoundedTable,
+        ends: BoundedTable,
         ends_next_year: bool,
     ) -> Self {
         AlternateData {
             parts,
             ends_next_year,
             has_inner_switches: starts.is_inner() && ends.is_inner(),
-            starts,
-            ends,
+            starts: starts.table,
+            ends: ends.table,
         }
     }
 

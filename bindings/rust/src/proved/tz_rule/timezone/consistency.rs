@@ -5,7 +5,7 @@
 //! Consistency is determined by the tables of both alone, without a year, and a conflict is looked
 //! for in the years from 1972 to 2000.
 
-use super::year_table::{KINDS, YearTable};
+use super::year_table::{BoundedTable, KINDS, YearTable};
 use crate::proved::tz_base::constants::{SECONDS_PER_DAY, SECONDS_PER_NORMAL_YEAR};
 
 /// How many kinds there are of two years that follow one another: from 0 two normal years, from 7 a
@@ -93,40 +93,6 @@ impl YearTable {
         self.comes_before_next(other) && self.comes_after_next(other)
     }
 
-    /// Whether ends come before starts (`self` is the table of starts), if the bounds of both
-    /// tables show that their order never changes; `None` if they do not show it.
-    const fn order_of_bounds(&self, ends: &YearTable) -> Option<bool> {
-        let (first_start, last_start) = self.bounds();
-        let (first_end, last_end) = ends.bounds();
-        // The bounds show an order only if no start comes after the next year's end, and no end
-        // after the next year's start.
-        if last_start as i64 > first_end as i64 + SECONDS_PER_NORMAL_YEAR {
-            return None;
-        }
-        if last_end as i64 > first_start as i64 + SECONDS_PER_NORMAL_YEAR {
-            return None;
-        }
-        if last_start <= first_end {
-            return Some(false);
-        }
-        if last_end < first_start {
-            return Some(true);
-        }
-        None
-    }
-
-    /// Whether the end of some year comes before its start. `None` if starts, of which this is the
-    /// table, and ends change their order.
-    pub(super) const fn order(&self, ends: &YearTable) -> Option<bool> {
-        if let Some(first) = self.order_of_bounds(ends) {
-            return Some(first);
-        }
-        if self.changes_order(ends) {
-            return None;
-        }
-        Some(ends.comes_first(self))
-    }
-
     /// Whether starts, of which this is the table, and ends change their order at some distance in
     /// years. Only the distances 0, 1 and -1 need a look: a start or an end lies less than ten days
     /// outside its year, so from two years on the order never changes.
@@ -175,5 +141,41 @@ impl YearTable {
             return Some(found);
         }
         self.conflict_at(ends, -1)
+    }
+}
+
+impl BoundedTable {
+    /// Whether ends come before starts (`self` is the table of starts), if the bounds of both
+    /// tables show that their order never changes; `None` if they do not show it.
+    const fn order_of_bounds(&self, ends: &BoundedTable) -> Option<bool> {
+        let (first_start, last_start) = (self.least, self.greatest);
+        let (first_end, last_end) = (ends.least, ends.greatest);
+        // The bounds show an order only if no start comes after the next year's end, and no end
+        // after the next year's start.
+        if last_start as i64 > first_end as i64 + SECONDS_PER_NORMAL_YEAR {
+            return None;
+        }
+        if last_end as i64 > first_start as i64 + SECONDS_PER_NORMAL_YEAR {
+            return None;
+        }
+        if last_start <= first_end {
+            return Some(false);
+        }
+        if last_end < first_start {
+            return Some(true);
+        }
+        None
+    }
+
+    /// Whether the end of some year comes before its start. `None` if starts, of which this is the
+    /// table, and ends change their order.
+    pub(super) const fn order(&self, ends: &BoundedTable) -> Option<bool> {
+        if let Some(first) = self.order_of_bounds(ends) {
+            return Some(first);
+        }
+        if self.table.changes_order(&ends.table) {
+            return None;
+        }
+        Some(ends.table.comes_first(&self.table))
     }
 }

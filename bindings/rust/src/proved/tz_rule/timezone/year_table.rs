@@ -57,25 +57,33 @@ const fn seconds_to(year_day: u16, seconds: i32) -> i32 {
     86_400 * year_day as i32 + seconds
 }
 
+/// The seconds of `days_later` at each place: those of a day that has no week day, and then twice
+/// those of seven days that follow one another.
+const SECONDS_LATER: [u32; 20] = [
+    0, 0, 0, 0, 0, 0, 0, 518_400, 432_000, 345_600, 259_200, 172_800, 86_400, 0, 518_400, 432_000,
+    345_600, 259_200, 172_800, 86_400,
+];
+
+/// The seconds by which a day is later than the first one that it may be, at a place.
+const fn seconds_later(place: usize) -> u32 {
+    SECONDS_LATER[place]
+}
+
+/// The seconds at a place, by those of the first day.
+const fn seconds_at(first: i32, place: usize) -> i32 {
+    first + seconds_later(place) as i32
+}
+
+/// The seconds of the last day, by those of the first.
+const fn last_seconds(first: i32, place: usize) -> i32 {
+    if place == 0 { first } else { first + 518_400 }
+}
+
 impl YearTable {
     /// The table of zeros.
     #[cfg(feature = "inner")]
     pub(super) const fn zeros() -> YearTable {
         YearTable([0; KINDS])
-    }
-
-    /// The table of a time after 00:00 UTC of a rule day, in seconds.
-    pub(super) const fn of_day(day: &RuleDay, seconds: i32) -> YearTable {
-        let normal = day.year_days(false);
-        let leap = day.year_days(true);
-        let mut entries = [0; KINDS];
-        let mut week_day = 0;
-        while week_day < 7 {
-            entries[week_day] = seconds_to(normal[week_day], seconds);
-            entries[7 + week_day] = seconds_to(leap[week_day], seconds);
-            week_day += 1;
-        }
-        YearTable(entries)
     }
 
     /// Seconds from New Year, 00:00 UTC, in years of this kind.
@@ -94,24 +102,44 @@ impl YearTable {
     pub(super) const fn in_year(&self, year: i32) -> i64 {
         self.in_moved_year(calendar::moved_year(year))
     }
+}
 
-    /// The least and the greatest seconds of all kinds.
-    pub(super) const fn bounds(&self) -> (i32, i32) {
-        let (mut least, mut greatest) = (i32::MAX, i32::MIN);
-        let mut kind = 0;
-        while kind < KINDS {
-            least = lesser_i32(least, self.0[kind]);
-            greatest = greater_i32(greatest, self.0[kind]);
-            kind += 1;
+/// A table, and the least and the greatest seconds of all kinds.
+#[derive(Clone, Copy)]
+pub(super) struct BoundedTable {
+    pub(super) table: YearTable,
+    pub(super) least: i32,
+    pub(super) greatest: i32,
+}
+
+impl BoundedTable {
+    /// The table of a time after 00:00 UTC of a rule day, in seconds.
+    pub(super) const fn of_day(day: &RuleDay, seconds: i32) -> BoundedTable {
+        let (normal_day, normal_place) = day.span(false);
+        let (leap_day, leap_place) = day.span(true);
+        let normal = seconds_to(normal_day, seconds);
+        let leap = seconds_to(leap_day, seconds);
+        let mut entries = [0; KINDS];
+        let mut week_day = 0;
+        while week_day < 7 {
+            entries[week_day] = seconds_at(normal, normal_place + week_day);
+            entries[7 + week_day] = seconds_at(leap, leap_place + week_day);
+            week_day += 1;
         }
-        (least, greatest)
+        BoundedTable {
+            table: YearTable(entries),
+            least: lesser_i32(normal, leap),
+            greatest: greater_i32(
+                last_seconds(normal, normal_place),
+                last_seconds(leap, leap_place),
+            ),
+        }
     }
 
     /// Whether the instant of each year is ten days or more from the ends of the year, also if that
     /// has 365 days.
     pub(super) const fn is_inner(&self) -> bool {
-        let (least, greatest) = self.bounds();
-        INNER_START <= least && greatest < INNER_END
+        INNER_START <= self.least && self.greatest < INNER_END
     }
 }
 
