@@ -379,8 +379,6 @@ fn meaning_in(fields: &Fields, zone: &ZoneData<'_>) -> Result<Meaning, TzError>
     ensures ok { IfOk result (HasMeaning (zone_of_data zone.now) fields.now) }
     ensures outcome { IsOutcome (λ e. e) ⊥ (zone_of_data zone.now) fields.now result }
 {
-    // For the proof, which bounds the entries by these offsets.
-    let (_least, _greatest) = zone.offsets();
     fields.check()?;
     let reading = fields.reading();
     let (low, high) = window_of(zone, reading);

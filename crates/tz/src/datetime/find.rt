@@ -58,8 +58,6 @@ pub(super) fn find_in<L: DateTimeList>(
     ensures looks { AreLooksOf (zone_of_data zone.now) (reading fields.now) (looks_of view.old)
         (one_look_more (looks_of view.old)) (looks_of view.new) result }
 {
-    // For the proof, which bounds the entries by these offsets.
-    let (_least, _greatest) = zone.offsets();
     fields.check()?;
     search(list, fields, view, zone)
 }

@@ -56,8 +56,6 @@ fn check_entries(fields: &Fields, zone: &ZoneData<'_>) -> Result<(), TzError>
     ensures made { OnOk result (EachCanBeMade (IsClock (zone_of_data zone.now)) fields.now) }
     ensures err { IfErr result (IsSearchFault ⊥ (IsClock (zone_of_data zone.now)) fields.now) }
 {
-    // For the proof, which bounds the entries by these offsets.
-    let (_least, _greatest) = zone.offsets();
     // 200 years or more from both ends of 32 bits.
     if -2_147_483_448 <= fields.year && fields.year <= 2_147_483_447 {
         return Ok(());

@@ -76,8 +76,6 @@ fn half(view: &mut TransitionView<'_>, position: usize, count: usize, unix_leap_
     ensures kept { looks_of view.old ≤ looks_of view.new }
     ensures at_most { looks_of view.new ≤ looks_of view.old + 1 }
 {
-    // By this read the proof knows that the sum fits.
-    let _len = view.len();
     position_after_look(view, position, position + count, unix_leap_time)
 }
 
@@ -185,8 +183,6 @@ fn is_among_three(view: &TransitionView<'_>, position: usize, unix_leap_time: i6
     requires within { position + 2 < length (list_of view.now) }
     ensures { IsTrue result → IsAmongPositions (list_of view.now) unix_leap_time position 3 }
 {
-    // By this read the proof knows that the sum fits.
-    let _len = view.len();
     view.guessed_at(position - 1).unix_leap_time() <= unix_leap_time
         && unix_leap_time < view.guessed_at(position + 2).unix_leap_time()
 }
@@ -221,8 +217,6 @@ fn position_among_three(view: &TransitionView<'_>, position: usize, unix_leap_ti
     ensures within { result < length (list_of view.now) }
     ensures at { IsPositionAt (list_of view.now) unix_leap_time result }
 {
-    // By this read the proof knows that the sums fit.
-    let _len = view.len();
     let next = position_after_guess(view, position, position + 1, unix_leap_time);
     position_after_guess(view, next, position + 2, unix_leap_time)
 }

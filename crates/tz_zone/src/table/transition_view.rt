@@ -1,8 +1,9 @@
 //! A zone's transitions as a function may read them: one at a time. Each read is a look, which is
 //! counted.
 
-ghost use Rattle.std.specs.Prelude.{◌≡◌, ◌+◌, ◌<◌, ◌≤◌, ◌^◌, length, slice_get, Some, IsTrue, true, false};
-ghost use Rattle.tz_zone.specs.Looks.{list_of, looks_of, may_guess_of, one_look_more};
+ghost use mir.Val.{Fits};
+ghost use Rattle.std.specs.Int.{w64};
+ghost use Rattle.std.specs.Prelude.{length};
 
 use super::Transition;
 
@@ -15,9 +16,13 @@ pub struct TransitionView<'a> {
     transitions: &'a [Transition],
     looks: u64,
     may_guess: bool,
+    ghost fits: { Fits w64 (length transitions.now) },
 }
 
 impl<'a> TransitionView<'a> {
+    ghost use Rattle.std.specs.Prelude.{◌≡◌, ◌+◌, ◌<◌, ◌≤◌, ◌^◌, length, slice_get, Some, IsTrue, true, false};
+    ghost use Rattle.tz_zone.specs.Looks.{list_of, looks_of, may_guess_of, one_look_more};
+
     /// The view of these transitions for a caller that wants no count: a position may be guessed,
     /// by reads that are not counted.
     pub const fn new(transitions: &'a [Transition]) -> Self

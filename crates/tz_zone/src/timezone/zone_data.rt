@@ -1,6 +1,8 @@
 //! Zones as plain data, whose tables and rule another owner has.
 
 ghost use Rattle.std.specs.Prelude.{◌≡◌};
+ghost use mir.Val.{SFits};
+ghost use Rattle.std.specs.Int.{w32};
 ghost use Rattle.tz_zone.specs.Offsets.{AreEndOffsets};
 ghost use Rattle.tz_zone.specs.Table.{zone_with};
 ghost use Rattle.tz_zone.specs.ValidZone.{IsSoundTable, IsSoundTable-prop, IsValidZone};
@@ -32,6 +34,8 @@ pub struct ZoneData<'a> {
     ghost offsets: { ∥ AreEndOffsets
         (zone_with transitions.now local_time_types.now leap_seconds.now
         (lent_rule rule)) least_offset greatest_offset ∥₁ },
+    ghost least_fits: { SFits w32 least_offset },
+    ghost greatest_fits: { SFits w32 greatest_offset },
 }
 
 /// Lends a rule, if there is one.

@@ -304,8 +304,6 @@ pub enum Meaning {
 /// What fields mean in a zone.
 #[inline]
 fn meaning_in(fields: &Fields, zone: &ZoneData<'_>) -> Result<Meaning, TzError> {
-    // For the proof, which bounds the entries by these offsets.
-    let (_least, _greatest) = zone.offsets();
     fields.check()?;
     let reading = fields.reading();
     let (low, high) = window_of(zone, reading);

@@ -41,8 +41,6 @@ pub(super) fn find_in<L: DateTimeList>(
     view: &mut TransitionView<'_>,
     zone: &ZoneData<'_>,
 ) -> Result<(), TzError> {
-    // For the proof, which bounds the entries by these offsets.
-    let (_least, _greatest) = zone.offsets();
     fields.check()?;
     search(list, fields, view, zone)
 }

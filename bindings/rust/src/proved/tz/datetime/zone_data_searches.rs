@@ -49,8 +49,6 @@ fn check_by_search(fields: &Fields, zone: &ZoneData<'_>) -> Result<(), TzError> 
 /// before anything is written.
 #[cfg(feature = "inner")]
 fn check_entries(fields: &Fields, zone: &ZoneData<'_>) -> Result<(), TzError> {
-    // For the proof, which bounds the entries by these offsets.
-    let (_least, _greatest) = zone.offsets();
     // 200 years or more from both ends of 32 bits.
     if -2_147_483_448 <= fields.year && fields.year <= 2_147_483_447 {
         return Ok(());

@@ -49,8 +49,6 @@ const fn half(
     count: usize,
     unix_leap_time: i64,
 ) -> usize {
-    // By this read the proof knows that the sum fits.
-    let _len = view.len();
     position_after_look(view, position, position + count, unix_leap_time)
 }
 
@@ -129,8 +127,6 @@ const fn first_by_time(view: &TransitionView<'_>, unix_leap_time: i64) -> usize 
 /// Whether a leap time lies at one of three positions, by the transitions on either side of them.
 #[inline]
 const fn is_among_three(view: &TransitionView<'_>, position: usize, unix_leap_time: i64) -> bool {
-    // By this read the proof knows that the sum fits.
-    let _len = view.len();
     view.guessed_at(position - 1).unix_leap_time() <= unix_leap_time
         && unix_leap_time < view.guessed_at(position + 2).unix_leap_time()
 }
@@ -158,8 +154,6 @@ const fn position_among_three(
     position: usize,
     unix_leap_time: i64,
 ) -> usize {
-    // By this read the proof knows that the sums fit.
-    let _len = view.len();
     let next = position_after_guess(view, position, position + 1, unix_leap_time);
     position_after_guess(view, next, position + 2, unix_leap_time)
 }

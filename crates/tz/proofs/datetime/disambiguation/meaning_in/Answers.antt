@@ -1,5 +1,6 @@
 -- The fields mean what their entries are.
-use Rattle.tz.proofs.Common.{arith, subst, ◌∙◌, ints, inr, sym, to_z-of_z, ℕ, rules, w64, IsClock, w32, err_from_is_err_and, zone_of_data, SFits, HasMeaning, More}
+use Rattle.tz_zone.proofs.OffsetBounds.{found_end_offsets}
+use Rattle.tz.proofs.Common.{arith, subst, ◌∙◌, ints, inr, sym, to_z-of_z, ℕ, rules, w64, IsClock, err_from_is_err_and, zone_of_data, HasMeaning, More}
 use Rattle.tz.proofs.Ends.{each_made, means_gap, means_more, means_nothing, means_once, means_twice, outside_refused, sides_inside}
 use Rattle.tz.proofs.PromisedLists.{never_out_of_range}
 use Rattle.tz.proofs.datetime.disambiguation.meaning_in.Goals as goal
@@ -13,14 +14,13 @@ returns-in_err-ends-clause-outcome c =
     let valid = c.in_ok-check.ensures.ok in
     let refused = rw reading_is at c.in_err-ends.ensures.err in
     let fault = inr (valid, outside_refused (IsClock z) f valid _ refused) in
-    let offsets = c.offsets-least in
-    let fits_least : SFits w32 offsets.result.0 = search rules in
-    let fits_greatest : SFits w32 offsets.result.1 = search rules in
+    let kept = c.args.zone.now in
+    let ends = found_end_offsets z kept.least_offset kept.greatest_offset kept.offsets in
     rw (p.1, p.2) (record {
       valid = tt;
       made = tt;
-      promised = λ promised. never_out_of_range ⊥ z offsets.result.0 offsets.result.1 offsets.ensures fits_least
-          fits_greatest f promised _ fault;
+      promised = λ promised. never_out_of_range ⊥ z kept.least_offset kept.greatest_offset ends kept.least_fits
+          kept.greatest_fits f promised _ fault;
       err = fault;
     })
 

@@ -74,3 +74,6 @@ returns-then-is_empty c =
     let empty = none_if_empty c.args.zone.now.transitions.now c.if-is_empty.ensures in
     let change = change_of c.in_ok-change.change in
     subst (λ (z : Zone). IsPreceding z u change) (without_none (zone_of_data c.args.zone.now) empty) found
+
+pub returns : goal.returns
+returns c = rw (to_z-of_z w64 c.args.unix_time c.ranges.unix_time) at c.preceding_from.ensures
