@@ -125,26 +125,26 @@ fn walk<'a, E: EntryTaker<'a>>(
     entries: &mut E,
     reading: i64,
     view: &mut TransitionView<'_>,
-    zone: ZoneData<'a>,
+    zone: &ZoneData<'a>,
     position: Option<usize>,
     low: i64,
     high: i64,
 ) -> Result<(), TzError>
-    requires view { list_of view.old ≡ (zone_of_data zone).transitions }
-    requires searchable { IsSearchable (zone_of_data zone) reading low high }
+    requires view { list_of view.old ≡ (zone_of_data zone.now).transitions }
+    requires searchable { IsSearchable (zone_of_data zone.now) reading low high }
     requires takes { TakesFrom E.gains E.takes entries.old reading }
-    requires position { IsPositionOf (zone_of_data zone) low position }
-    ensures ok { OnOk result (Finds E.gains (IsClock (zone_of_data zone.entry)) reading
+    requires position { IsPositionOf (zone_of_data zone.now) low position }
+    ensures ok { OnOk result (Finds E.gains (IsClock (zone_of_data zone.now)) reading
         entries.old entries.new) }
-    ensures err { IfErr result (IsRefused E.refuses (IsClock (zone_of_data zone.entry)) reading) }
+    ensures err { IfErr result (IsRefused E.refuses (IsClock (zone_of_data zone.now)) reading) }
     ensures kept { looks_of view.old ≤ looks_of view.new }
     ensures at_most { OnOk result ((b w : ℕ) → length (list_of view.old) < 2 ^ b
-        → AtMostTakeEffectIn (zone_of_data zone.entry) low high w
+        → AtMostTakeEffectIn (zone_of_data zone.now) low high w
         → looks_of view.new ≤ looks_of view.old + (first_looks position b + w)) }
     ensures none { OnOk result (length (list_of view.old) ≡ 0
         → looks_of view.new ≡ looks_of view.old) }
 {
-    let Some((first, stage)) = first_stage(view, &zone, position, low) else {
+    let Some((first, stage)) = first_stage(view, zone, position, low) else {
         return Ok(());
     };
     // A jump at `first` is no entry. It would pass over the reading only if the type after it
@@ -153,7 +153,7 @@ fn walk<'a, E: EntryTaker<'a>>(
     let mut before = None;
     let (mut since, mut stage) = (first, stage);
     while since <= high {
-        let span = span_from(view, &zone, stage, since, high);
+        let span = span_from(view, zone, stage, since, high);
         stage = span.next;
         // If two transitions take effect at the same instant, as around an inserted second, the
         // span between them is empty.
@@ -205,10 +205,11 @@ pub(super) fn give_in_window<'a, E: EntryTaker<'a>>(
             after,
         } => give_around(entries, reading, unix_time, before, after),
         WindowTypes::More(position) => {
-            // A view of its own, so that without a walk the caller's need not be in memory, and its
-            // count is not computed where nobody asks for it.
+            // A zone and a view of its own, so that without a walk the caller's need not be in
+            // memory, and its count is not computed where nobody asks for it.
+            let whole = zone;
             let mut rest = view.fresh();
-            let answer = walk(entries, reading, &mut rest, zone, position, low, high);
+            let answer = walk(entries, reading, &mut rest, &whole, position, low, high);
             view.add_looks(rest.looks());
             answer
         }

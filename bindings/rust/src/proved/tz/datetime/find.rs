@@ -22,6 +22,7 @@ pub(super) struct Refused<'a> {
 
 /// What [`DateTime::find`] finds of the fields.
 #[cfg(feature = "alloc")]
+#[inline]
 pub fn find_fields<A: Allocator + Copy>(
     alloc: A,
     fields: &Fields,
@@ -35,6 +36,7 @@ pub fn find_fields<A: Allocator + Copy>(
 
 /// Adds what [`DateTime::find`] finds of the fields to a list, through a view of the zone's
 /// transitions.
+#[inline]
 pub(super) fn find_in<L: DateTimeList>(
     list: &mut L,
     fields: &Fields,
@@ -57,6 +59,7 @@ impl DateTime {
     ///
     /// Those of [`DateTime::find`] but `Memory`. If a field is invalid, nothing is written.
     #[allow(clippy::too_many_arguments)]
+    #[inline]
     pub fn find_n<'a>(
         buf: &'a mut [Option<FoundDateTimeKind>],
         year: i32,
@@ -103,6 +106,7 @@ impl DateTime {
     /// # Errors
     ///
     /// [`TzError::OutOfRange`] as for [`DateTime::find`].
+    #[inline]
     pub fn find_n_local<'a>(
         buf: &'a mut [Option<FoundDateTimeKind>],
         local: UtcDateTime,
@@ -156,6 +160,7 @@ impl DateTime {
 
     /// What [`DateTime::find_n`] returns, or the buffer and the error.
     #[allow(clippy::too_many_arguments)]
+    #[inline]
     fn listed<'a>(
         buf: &'a mut [Option<FoundDateTimeKind>],
         year: i32,
@@ -193,6 +198,7 @@ impl DateTime {
 
     /// What [`DateTime::find_n`] returns for the fields, through a view of the zone's transitions,
     /// or the buffer and the error.
+    #[inline]
     fn listed_in<'a>(
         buf: &'a mut [Option<FoundDateTimeKind>],
         fields: &Fields,

@@ -87,12 +87,12 @@ fn walk<'a, E: EntryTaker<'a>>(
     entries: &mut E,
     reading: i64,
     view: &mut TransitionView<'_>,
-    zone: ZoneData<'a>,
+    zone: &ZoneData<'a>,
     position: Option<usize>,
     low: i64,
     high: i64,
 ) -> Result<(), TzError> {
-    let Some((first, stage)) = first_stage(view, &zone, position, low) else {
+    let Some((first, stage)) = first_stage(view, zone, position, low) else {
         return Ok(());
     };
     // A jump at `first` is no entry. It would pass over the reading only if the type after it
@@ -101,7 +101,7 @@ fn walk<'a, E: EntryTaker<'a>>(
     let mut before = None;
     let (mut since, mut stage) = (first, stage);
     while since <= high {
-        let span = span_from(view, &zone, stage, since, high);
+        let span = span_from(view, zone, stage, since, high);
         stage = span.next;
         // If two transitions take effect at the same instant, as around an inserted second, the
         // span between them is empty.
@@ -138,10 +138,11 @@ pub(super) fn give_in_window<'a, E: EntryTaker<'a>>(
             after,
         } => give_around(entries, reading, unix_time, before, after),
         WindowTypes::More(position) => {
-            // A view of its own, so that without a walk the caller's need not be in memory, and its
-            // count is not computed where nobody asks for it.
+            // A zone and a view of its own, so that without a walk the caller's need not be in
+            // memory, and its count is not computed where nobody asks for it.
+            let whole = zone;
             let mut rest = view.fresh();
-            let answer = walk(entries, reading, &mut rest, zone, position, low, high);
+            let answer = walk(entries, reading, &mut rest, &whole, position, low, high);
             view.add_looks(rest.looks());
             answer
         }
@@ -186,6 +187,7 @@ pub const fn types_of_window<'a>(zone: &ZoneData<'a>, low: i64, high: i64) -> Wi
 }
 
 /// Adds the entries for valid fields to the list, in order.
+#[inline]
 pub(super) fn search<L: DateTimeList>(
     list: &mut L,
     fields: &Fields,

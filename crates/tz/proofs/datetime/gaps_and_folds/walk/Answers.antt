@@ -6,7 +6,7 @@ use Rattle.tz.proofs.datetime.gaps_and_folds.walk.Goals as goal
 
 pub returns-in_default-clause-ok : goal.returns-in_default-clause-ok
 returns-in_default-clause-ok g c =
-    let clock = IsClock (zone_of_data c.args.zone) in
+    let clock = IsClock (zone_of_data c.args.zone.now) in
     let s = c.requires.searchable in
     let low = c.args.low in
     let high = c.args.high in
@@ -22,7 +22,7 @@ returns-in_default-clause-ok g c =
 
 pub loop-since-init : goal.loop-since-init
 loop-since-init g c =
-    let z = zone_of_data c.args.zone in
+    let z = zone_of_data c.args.zone.now in
     let first = c.in-Some.first in
     let fits : SFits w64 first = search rules in
     let low_is = to_z-of_z w64 c.args.low c.ranges.low in
@@ -69,7 +69,7 @@ span_from-span-requires-clause-stage g c =
 
 pub returns-in_err-give-clause-err : goal.returns-in_err-give-clause-err
 returns-in_err-give-clause-err g c =
-    let z = zone_of_data c.args.zone in
+    let z = zone_of_data c.args.zone.now in
     let s = c.requires.searchable in
     let since = c.loop-since.since in
     let span = c.span_from-span.result in
@@ -117,7 +117,7 @@ loop-since-smaller-then-since-span g c =
 
 pub loop-since-preserved-then-since-span : goal.loop-since-preserved-then-since-span
 loop-since-preserved-then-since-span g c =
-    let z = zone_of_data c.args.zone in
+    let z = zone_of_data c.args.zone.now in
     let s = c.requires.searchable in
     let low = c.args.low in
     let high = c.args.high in
@@ -225,8 +225,8 @@ loop-since-preserved g c =
       stage = λ within. ensured.next first since stage (omega (arith, ints))
           (omega (arith, ints, c.if-since-span.false, since_is, to_z-of_z w64 span.last (search rules))) within;
       found = so_far.found;
-      looks = looks_on (zone_of_data c.args.zone) s.sound c.args.low high s.reach first begun.0 c.in-Some.stage begun.1
-          since c.loop-since.stage stage inside
+      looks = looks_on (zone_of_data c.args.zone.now) s.sound c.args.low high s.reach first begun.0 c.in-Some.stage
+          begun.1 since c.loop-since.stage stage inside
           (looks_of c.first_stage.new.view) (looks_of c.loop-since.view)
           (looks_of c.span_from-span.new.view) span.next.position
           so_far.looks ensured.kept ensured.at_most ensured.onward (rw c.requires.view at ensured.within);
@@ -234,7 +234,7 @@ loop-since-preserved g c =
 
 pub returns-clause-ok : goal.returns-clause-ok
 returns-clause-ok g c =
-    let clock = IsClock (zone_of_data c.args.zone) in
+    let clock = IsClock (zone_of_data c.args.zone.now) in
     let s = c.requires.searchable in
     let r = c.args.reading in
     let low = c.args.low in
