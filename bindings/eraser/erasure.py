@@ -75,6 +75,7 @@ PACKAGES = (
             "crates/tz/src/laws.rt",
             "crates/tz_civil/src/laws.rt",
             "crates/tz_format/src/constants.rt",
+            "crates/tz_format/src/laws.rt",
         ),
         by_hand={
             "crates/tz_rule/src/timezone/utc_statics.rt": "bindings/rust/src/proved/tz_rule/timezone/utc_statics.rs",
@@ -177,7 +178,7 @@ LEFT_OUT = {
     "crates/tz/src/lib.rt": {"laws"},
     "crates/tz_civil/src/lib.rt": {"laws"},
     # In Rust constants are checked by tests.
-    "crates/tz_format/src/lib.rt": {"constants"},
+    "crates/tz_format/src/lib.rt": {"constants", "laws"},
     "crates/tz_query/src/lib.rt": {"laws"},
     "crates/tz_c/src/lib.rt": {"laws"},
     # In Rust one implementation is for all that is a `TzError`.
@@ -217,6 +218,7 @@ ALLOWED = {
     },
     "crates/tz_base/src/calendar.rt": {"days_before_moved_year": ("clippy::manual_div_ceil",)},
     "crates/tz_format/src/lenient.rt": {"is_name_byte": ("clippy::manual_range_contains",)},
+    "crates/tz_format/src/read.rt": {"nearest": ("clippy::manual_clamp",)},
     "crates/tz_zone/src/parse/tz_string.rt": {"read_daylight": ("clippy::type_complexity",)},
     "crates/tz_c/src/zones.rt": {
         "index_in": ("clippy::manual_find", "clippy::needless_range_loop")

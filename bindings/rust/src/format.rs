@@ -55,8 +55,9 @@
 //!
 //! # Reading
 //!
-//! [`Pattern::read`] takes exactly the texts that the pattern prints, of the years from 0 to 9999, whole milliseconds, and offsets of whole minutes below
-//! 100 hours. It allocates nothing. [`LenientDateTime::parse`] reads local times without a pattern.
+//! [`Pattern::read`] takes exactly the texts that the pattern prints, of the years from 0 to 9999, and offsets of whole minutes below 100 hours. It
+//! allocates nothing. Not read are `%G`, `%s` and `%Z`, nor what determines a part by halves. [`LenientDateTime::parse`] reads local times without a
+//! pattern.
 //!
 //! ```
 //! use tz::format::{LenientDateTime, Pattern, ReadPatternError};
@@ -64,9 +65,11 @@
 //! let read = Pattern::RFC_2822.read(b"Fri, 21 Nov 1997 09:55:06 -0600")?;
 //! assert_eq!(read.local().to_string(), "1997-11-21T09:55:06.000000000Z");
 //! assert_eq!(read.ut_offset(), Some(-21_600));
-//! // That day was no Thursday.
+//! // That day was no Thursday, and no month is Nof.
 //! let error = Pattern::RFC_2822.read(b"Thu, 21 Nov 1997 09:55:06 -0600").unwrap_err();
-//! assert_eq!(error, ReadPatternError::Mismatch);
+//! assert_eq!(error, ReadPatternError::Mismatch { position: 0 });
+//! let error = Pattern::RFC_2822.read(b"Fri, 21 Nof 1997 09:55:06 -0600").unwrap_err();
+//! assert_eq!(error, ReadPatternError::Mismatch { position: 10 });
 //!
 //! let written = LenientDateTime::parse(b"1997-11-21 09:55[America/Chicago]").unwrap();
 //! assert_eq!(written.date_time().local().to_string(), "1997-11-21T09:55:00.000000000Z");

@@ -362,6 +362,42 @@ fn constants_read_what_they_print() {
             "2000-11-03T00:00:00.000000000Z",
             None,
         ),
+        (
+            pattern!("%F %T%.9f"),
+            "0000-02-29 23:59:60.123456789",
+            "0-02-29T23:59:60.123456789Z",
+            None,
+        ),
+        (
+            pattern!("%A, %e %B %Y, %I:%M %p"),
+            "Wednesday, 20 September 2000, 12:34 AM",
+            "2000-09-20T00:34:00.000000000Z",
+            None,
+        ),
+        (
+            pattern!("%p%I %Y-%j %B %d"),
+            "PM12 2000-061 March 01",
+            "2000-03-01T12:00:00.000000000Z",
+            None,
+        ),
+        (
+            pattern!("%D is %d.%m.%Y, %R:%S.%6f"),
+            "12/31/99 is 31.12.1999, 23:59:59.000001",
+            "1999-12-31T23:59:59.000001000Z",
+            None,
+        ),
+        (
+            pattern!("%6f %F %g %y"),
+            "999999 2008-12-29 09 08",
+            "2008-12-29T00:00:00.999999000Z",
+            None,
+        ),
+        (
+            pattern!("%F%9f%:z"),
+            "9999-12-31000000001-00:01",
+            "9999-12-31T00:00:00.000000001Z",
+            Some(-60),
+        ),
     ];
     for (pattern, text, local, offset) in rows {
         assert_eq!(
@@ -373,87 +409,235 @@ fn constants_read_what_they_print() {
 }
 
 #[test]
-fn each_month_is_read() {
-    let dates = pattern!("%d %b %Y");
+fn each_name_is_read() {
+    let dates = pattern!("%B %b %h %A %a %d %Y");
     for month in 1..=12 {
-        let date = utc(2026, month, 5, 0, 0, 0);
-        let text = date.format(dates).to_string();
-        assert_eq!(
-            dates.read(text.as_bytes()).map(|read| read.local()),
-            Ok(date),
-            "{text}"
-        );
+        for day in 1..=7 {
+            let date = utc(2026, month, day, 0, 0, 0);
+            let text = date.format(dates).to_string();
+            assert_eq!(
+                dates.read(text.as_bytes()).map(|read| read.local()),
+                Ok(date),
+                "{text}"
+            );
+        }
+    }
+}
+
+#[test]
+fn each_hour_is_read() {
+    for hours in [
+        pattern!("%F %H"),
+        pattern!("%F %k"),
+        pattern!("%F %I%p"),
+        pattern!("%F %p%I"),
+        pattern!("%F %H %I"),
+    ] {
+        for hour in 0..24 {
+            let date = utc(2026, 11, 30, hour, 0, 0);
+            let text = date.format(hours).to_string();
+            assert_eq!(
+                hours.read(text.as_bytes()).map(|read| read.local()),
+                Ok(date),
+                "{text}"
+            );
+        }
+    }
+}
+
+/// Where a text differs from what the pattern prints of a date time near to it.
+fn position(pattern: Pattern<'_>, text: &[u8]) -> usize {
+    match pattern.read(text) {
+        Err(ReadPatternError::Mismatch { position }) => position,
+        read => panic!("{read:?}"),
     }
 }
 
 #[test]
 fn other_texts_are_not_read() {
-    let texts = [
-        "",
-        "10/Oct/2000:13:55:36",
-        "10/Oct/2000:13:55:36 -0000",
-        "10/oct/2000:13:55:36 -0700",
-        "3/Nov/2000:13:55:36 -0700",
-        "30/Feb/2000:13:55:36 -0700",
-        "10/Oct/2000:24:00:00 -0700",
-        "10/Oct/2000:13:60:00 -0700",
-        "10/Oct/2000:13:59:61 -0700",
-        "10/Oct/2000:13:55:36 -0760",
-        "10/Oct/20000:13:55:36 -0700",
-        "10/Okt/2000:13:55:36 -0700",
-        "٠١/Oct/2000:13:55:36 -0700",
-        "10/Oct/2000:13:55:36 \0\0\0\0\0",
-        "10/Oct/2000:13:55:36 Z",
+    let rows = [
+        ("", 0),
+        ("10/Oct/2000:13:55:36", 20),
+        ("10/Oct/2000:13:55:36 -0000", 21),
+        ("10/oct/2000:13:55:36 -0700", 3),
+        ("10/Okt/2000:13:55:36 -0700", 4),
+        ("3/Nov/2000:13:55:36 -0700", 1),
+        ("00/Oct/2000:13:55:36 -0700", 1),
+        ("32/Oct/2000:13:55:36 -0700", 1),
+        ("1x/Oct/2000:13:55:36 -0700", 1),
+        ("29/Feb/2001:13:55:36 -0700", 1),
+        ("10/Oct/20000:13:55:36 -0700", 11),
+        ("10/Oct/-001:13:55:36 -0700", 7),
+        ("10/Oct/2000:24:00:00 -0700", 13),
+        ("10/Oct/2000:13:60:00 -0700", 15),
+        ("10/Oct/2000:13:59:61 -0700", 19),
+        ("10/Oct/2000:13:55:36 -0760", 23),
+        ("10/Oct/2000:13:55:36 *0700", 21),
+        ("10/Oct/2000:13:55:36 -070", 25),
+        ("10/Oct/2000:13:55:36 -07000", 26),
+        ("10/Oct/2000:13:55:36 Z", 21),
+        ("٠١/Oct/2000:13:55:36 -0700", 0),
+        ("10/Oct/2000:13:55:36 \0\0\0\0\0", 21),
     ];
-    let long = "1".repeat(10_000_000);
-    for text in texts.into_iter().chain([long.as_str()]) {
-        let read = Pattern::COMMON_LOG.read(text.as_bytes());
-        assert_eq!(read.err(), Some(ReadPatternError::Mismatch), "{:.40}", text);
-    }
-    // A Friday is no Saturday.
-    let mail = Pattern::RFC_2822.read(b"Sat, 21 Nov 1997 09:55:06 -0600");
-    assert_eq!(mail.err(), Some(ReadPatternError::Mismatch));
-    for conversion in [
-        "%A", "%B", "%F", "%G", "%I", "%T", "%Z", "%j", "%s", "%y", "%6f",
-    ] {
-        let pattern = format!("%Y-%m-%d {conversion}");
-        let read = Pattern::new(&pattern).unwrap().read(b"");
+    for (text, expected) in rows {
         assert_eq!(
-            read.err(),
-            Some(ReadPatternError::NotReadable),
-            "{conversion}"
+            position(Pattern::COMMON_LOG, text.as_bytes()),
+            expected,
+            "{text}"
         );
     }
+    let long = "1".repeat(10_000_000);
+    assert_eq!(position(Pattern::COMMON_LOG, long.as_bytes()), 2);
+    // A Friday is no Saturday, and this day no Wednesday.
+    let mail = Pattern::RFC_2822;
+    assert_eq!(position(mail, b"Sat, 21 Nov 1997 09:55:06 -0600"), 0);
+    let rows = [
+        (pattern!("%Y-%m-%d"), "2001-02-29", 9),
+        (pattern!("%Y-%m-%d"), "2001-13-01", 6),
+        (pattern!("%F %A"), "2000-09-20 Monday", 11),
+        (pattern!("%F %A"), "2000-09-20 Wednesdai", 19),
+        (pattern!("%d %B %Y"), "1 March 2000", 1),
+        (pattern!("%d %B %Y"), "01 Marsh 2000", 6),
+        (pattern!("%F %I %p"), "2000-09-20 00 AM", 11),
+        (pattern!("%F %I %p"), "2000-09-20 13 PM", 11),
+        (pattern!("%F %I %p"), "2000-09-20 12 am", 14),
+        (pattern!("%F %j"), "2001-03-01 061", 13),
+        (pattern!("%F %y"), "2001-03-01 02", 12),
+        (pattern!("%F %g"), "2008-12-29 08", 12),
+        (pattern!("%F %d"), "2008-12-29 28", 9),
+        (pattern!("%F%.6f"), "2008-12-29.12345", 16),
+        // Months and days of the month begin at 1.
+        (pattern!("%T"), "12:34:56", 8),
+    ];
+    for (pattern, text, expected) in rows {
+        assert_eq!(position(pattern, text.as_bytes()), expected, "{text}");
+    }
+    assert_eq!(
+        pattern!("%F").read(b"2001-02-29").unwrap_err().to_string(),
+        "the pattern prints no text that has these bytes after the first 9"
+    );
 }
+
+#[test]
+fn parts_are_not_shown_by_halves() {
+    let unreadable = [
+        "%Y-%m-%d %G",
+        "%Y-%m-%d %s",
+        "%Y-%m-%d %Z",
+        "%F %I",
+        "%F %p",
+        "%I:%M",
+        "%m %d %y",
+        "%D",
+        "%D %I%p",
+        "%H %j",
+        "%Y %j",
+        "%m-%d %j",
+        "%Y %m %j",
+        "%Y %d %j",
+        "%Y %g",
+        "%m %d %g",
+    ];
+    for text in unreadable {
+        let read = Pattern::new(text).unwrap().read(b"2000-01-01 2000");
+        assert_eq!(read.err(), Some(ReadPatternError::NotReadable), "{text}");
+    }
+    let readable = [
+        "%F %H %I",
+        "%F %p %k",
+        "%F %T %p",
+        "%I %R",
+        "%Y %D",
+        "%F %j %g %y",
+        "%H",
+    ];
+    for text in readable {
+        position(Pattern::new(text).unwrap(), b"");
+    }
+    assert_eq!(
+        ReadPatternError::NotReadable.to_string(),
+        "the pattern has a conversion that is not read"
+    );
+}
+
+/// Patterns whose texts are altered.
+const ALTERED: [(Pattern<'static>, &str); 4] = [
+    (Pattern::RFC_3339_MILLIS, "2000-11-03T05:06:07.089+01:00"),
+    (Pattern::RFC_2822, "Fri, 21 Nov 1997 09:55:06 -0600"),
+    (
+        pattern!("%D %e %B %Y%m%d %A %I%p %9f%:z"),
+        "09/06/00  6 September 20000906 Wednesday 12PM 123456789+00:00",
+    ),
+    (
+        pattern!("%F %R %j %V%U%W%u%w%g%y%S%n%t%%%z"),
+        "2000-11-03 23:59 308 44444455000060\n\t%-9959",
+    ),
+];
 
 /// A text that is read prints as it stands: whatever one byte of it is, and with a byte less or more.
 #[test]
 fn what_is_read_is_printed_again() {
-    let text = b"2000-11-03T05:06:07.089+01:00";
-    let pattern = Pattern::RFC_3339_MILLIS;
-    for position in 0..text.len() {
-        for byte in 0..=255 {
-            let mut altered = text.to_vec();
-            altered[position] = byte;
-            if let Ok(read) = pattern.read(&altered) {
-                let offset = read.ut_offset().unwrap();
-                let local_time_type = LocalTimeType::new(offset, false, None).unwrap();
-                let unix_time = read.local().unix_time() - i64::from(offset);
-                let date_time = DateTime::from_timespec_and_local(
-                    unix_time,
-                    read.local().nanoseconds(),
-                    local_time_type,
-                )
-                .unwrap();
-                assert_eq!(date_time.format(pattern).to_string().as_bytes(), altered);
+    for (pattern, text) in ALTERED {
+        assert!(pattern.read(text.as_bytes()).is_ok(), "{text}");
+        let text = text.as_bytes();
+        for position in 0..text.len() {
+            for byte in 0..=255 {
+                let mut altered = text.to_vec();
+                altered[position] = byte;
+                if let Ok(read) = pattern.read(&altered) {
+                    let offset = read.ut_offset().unwrap();
+                    let local_time_type = LocalTimeType::new(offset, false, None).unwrap();
+                    let local = read.local();
+                    let date_time = DateTime::new(
+                        local.year(),
+                        local.month(),
+                        local.month_day(),
+                        local.hour(),
+                        local.minute(),
+                        local.second(),
+                        local.nanoseconds(),
+                        local_time_type,
+                    )
+                    .unwrap();
+                    assert_eq!(date_time.format(pattern).to_string().as_bytes(), altered);
+                }
+            }
+            let mut less = text.to_vec();
+            less.remove(position);
+            assert!(pattern.read(&less).is_err());
+            let mut more = text.to_vec();
+            more.insert(position, b'0');
+            // A zero before the nine digits of a fraction would shift them.
+            assert!(pattern.read(&more).is_err());
+        }
+    }
+}
+
+/// Each pattern reads what it prints, of years from 0 to 9999, as its fields.
+#[test]
+fn what_is_printed_is_read() {
+    let whole =
+        "%F %T%.9f %A %a %B %b %h %d %e %H %k %I %p %j %y %g %D %R %V %U %W %u %w %6f %3f %m";
+    let whole = Pattern::new(whole);
+    assert_eq!(whole, Err(PatternError::TooLong));
+    for text in [
+        "%F %T%.9f %A %a %B %b %h %d %e %H %k %I %p %j %y %g %D %R",
+        "%Y%m%d%H%M%S%9f%z%V%U%W%u%w",
+        "%.6f %.3f %9f %p %I %M %S %e %b %Y %:z",
+    ] {
+        let pattern = Pattern::new(text).unwrap();
+        for days in (-719_528_i64..2_932_897).step_by(9_973) {
+            for (seconds, nanoseconds) in [(0, 0), (43_199, 999_999_999), (86_399, 1_002_003)] {
+                let local =
+                    UtcDateTime::from_timespec(days * 86_400 + seconds, nanoseconds).unwrap();
+                let printed = local.format(pattern).to_string();
+                assert_eq!(
+                    pattern.read(printed.as_bytes()).map(|read| read.local()),
+                    Ok(local),
+                    "{printed}"
+                );
             }
         }
-        let mut less = text.to_vec();
-        less.remove(position);
-        assert_eq!(pattern.read(&less).err(), Some(ReadPatternError::Mismatch));
-        let mut more = text.to_vec();
-        more.insert(position, b'0');
-        assert_eq!(pattern.read(&more).err(), Some(ReadPatternError::Mismatch));
     }
 }
 

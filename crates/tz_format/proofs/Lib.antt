@@ -7,6 +7,8 @@ pub mod Measured
 pub mod UnixTimes
 pub mod Designations
 pub mod Whole
+pub mod Parts
 pub mod Fronts
 pub mod Guessed
 pub mod Moments
+pub mod UniqueReadings

@@ -1,9 +1,10 @@
-//! Date times printed by patterns.
+//! Date times printed and read by patterns, and local times as people write them.
 #![tactic(auto)]
 
 pub mod constants;
 mod conversion;
 mod formatted;
+pub mod laws;
 mod lenient;
 mod line;
 mod moment;

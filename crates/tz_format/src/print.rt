@@ -21,7 +21,7 @@ use crate::weeks::{days_since_monday, week_of, week_of_year};
 use tz_base::fields::Fields;
 
 /// The name of a month.
-fn month_name(month: u8) -> &'static str
+pub(crate) fn month_name(month: u8) -> &'static str
     requires { (1 ≤ month) × (month ≤ 12) }
     ensures value { result.now ≡ month_name month }
     ensures len { (3 ≤ length result.now) × (length result.now ≤ 9) }

@@ -1,8 +1,9 @@
 // Generated from crates/tz_format/src/lib.rt by bindings/erase: its contracts are cut. Change that file instead.
-//! Date times printed by patterns.
+//! Date times printed and read by patterns, and local times as people write them.
 
 mod conversion;
 mod formatted;
+
 mod lenient;
 mod line;
 mod moment;

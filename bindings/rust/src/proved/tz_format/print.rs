@@ -8,7 +8,7 @@ use crate::proved::tz_format::moment::Moment;
 use crate::proved::tz_format::weeks::{days_since_monday, week_of, week_of_year};
 
 /// The name of a month.
-fn month_name(month: u8) -> &'static str {
+pub(crate) fn month_name(month: u8) -> &'static str {
     match month {
         1 => "January",
         2 => "February",

@@ -7,4 +7,4 @@ abbrev pub decreases-loop-position : goal.decreases-loop-position
 decreases-loop-position l = length l.pattern - l.position
 
 abbrev pub invariant-loop-position : goal.invariant-loop-position
-invariant-loop-position l = IsReadUpTo l.pattern l.text l.position l.left l.values l.is_offset_shown
+invariant-loop-position l = IsReadUpTo l.pattern l.text l.position l.left l.guess.values l.guess.shown

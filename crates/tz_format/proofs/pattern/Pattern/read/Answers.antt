@@ -2,7 +2,7 @@
 use Rattle.std.proofs.Common.{◌≡◌, ◌∙◌, ap, sym, subst, Some, None}
 use Rattle.std.specs.Prelude.{if◌then◌else◌}
 use Rattle.tz_format.specs.Patterns.{text_of, items_of}
-use Rattle.tz_format.specs.Readings.{IsGuess, are_shown}
+use Rattle.tz_format.specs.Readings.{IsGuess, IsReadFault, are_shown}
 use Rattle.tz_format.specs.Shown.{Shown, shown_of}
 use Rattle.tz_format.proofs.Moments.{same_shown}
 use Rattle.tz_format.proofs.pattern.Pattern.read.Goals as goal
@@ -12,12 +12,14 @@ returns-then-not-is_printed-clause-err c =
     let pattern = c.args.self.now.text.now in
     let text = c.args.text.now in
     let values = c.in-Some.guess.values in
-    let is_shown = c.in-Some.guess.is_offset_shown in
+    let shown = c.in-Some.guess.shown in
     let pattern_is : c.as_bytes.result.now ≡ pattern = c.as_bytes.ensures.value ∙ c.as_str.ensures in
-    let guess : IsGuess pattern text values is_shown =
-    subst (λ p. IsGuess p text values is_shown) pattern_is c.in-Some.ensures.some in
+    let guess : IsGuess pattern text values shown =
+    subst (λ p. IsGuess p text values shown) pattern_is c.in-Some.ensures.some in
     let m = shown_of c.in-Some-moment_with.found.1 in
-    let (plain, parts, local_is) = c.in-Some-moment_with.ensures.some in (
+    let (plain, parts, local_is) = c.in-Some-moment_with.ensures.some in
+    let (position, is) = c.mismatch-then-not-is_printed.ensures in
+    subst (IsReadFault pattern text) (sym is) (
       guess.readable,
       (λ s reading.
           let same : m ≡ s = same_shown m s plain reading.plain
@@ -30,10 +32,10 @@ returns-clause-once c = λ s reading.
     let pattern = c.args.self.now.text.now in
     let text = c.args.text.now in
     let values = c.in-Some.guess.values in
-    let is_shown = c.in-Some.guess.is_offset_shown in
+    let shown = c.in-Some.guess.shown in
     let pattern_is : c.as_bytes.result.now ≡ pattern = c.as_bytes.ensures.value ∙ c.as_str.ensures in
-    let guess : IsGuess pattern text values is_shown =
-    subst (λ p. IsGuess p text values is_shown) pattern_is c.in-Some.ensures.some in
+    let guess : IsGuess pattern text values shown =
+    subst (λ p. IsGuess p text values shown) pattern_is c.in-Some.ensures.some in
     let m = shown_of c.in-Some-moment_with.found.1 in
     let (plain, parts, local_is) = c.in-Some-moment_with.ensures.some in
     let same : m ≡ s = same_shown m s plain reading.plain
@@ -41,5 +43,5 @@ returns-clause-once c = λ s reading.
       reading,
       local_is ∙ ap (λ (t : Shown). t.fields) same,
       c.offset_if.ensures ∙ ap (λ b. if b then Some m.ut_offset else None) guess.offset
-          ∙ ap (λ (t : Shown). if are_shown 7 (items_of pattern) then Some t.ut_offset else None) same,
+          ∙ ap (λ (t : Shown). if are_shown 10 (items_of pattern) then Some t.ut_offset else None) same,
     )
