@@ -51,7 +51,8 @@ stayed =
 abbrev pub spelled : (κs : Lfts 2) → Spells (types_at params κs)
 spelled κs =
     let b = uint_vals w8 in
-    (mut_slice_vals, (sint_vals w32, (b, (b, (b, (b, (b, (uint_vals w32, ((λ x. zone_laws.lowered x ∷ []), tt)))))))))
+    let lowered = zone_laws.lowered (named_lft 2 1 tt κs) in
+    (mut_slice_vals, (sint_vals w32, (b, (b, (b, (b, (b, (uint_vals w32, ((λ x. lowered x ∷ []), tt)))))))))
 
 pub spelled_tells : (κs : Lfts 2) → Tellss (types_at params κs) (Ises (types_at params κs)) (spelled κs)
 spelled_tells κs =
