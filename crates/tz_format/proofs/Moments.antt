@@ -50,7 +50,8 @@ plain_with f o y m valid year year_below below offset = record {
 }
 
 -- the halves of a day, and thousands
-halves : (half in_half : ℕ) → in_half < 12 → ((12 * half + in_half) / 12 ≡ half) × ((12 * half + in_half) % 12 ≡ in_half)
+halves : (half in_half : ℕ) → in_half < 12
+    → ((12 * half + in_half) / 12 ≡ half) × ((12 * half + in_half) % 12 ≡ in_half)
 halves half in_half below = (omega (arith, below), omega (arith, below))
 
 thousands : (a b c : ℕ) → b < 1000 → c < 1000 → ((1000000 * a + 1000 * b + c) / 1000000 ≡ a)
@@ -129,8 +130,8 @@ fields_once s t same =
     let b = number (s.fields.nanoseconds / 1000 % 1000) (t.fields.nanoseconds / 1000 % 1000) (same 8 (lit< tt)) in
     let c = number (s.fields.nanoseconds % 1000) (t.fields.nanoseconds % 1000) (same 9 (lit< tt)) in
     let nanoseconds : s.fields.nanoseconds ≡ t.fields.nanoseconds = omega (arith, a, b, c) in
-    same_fields s.fields t.fields (same 0 (lit< tt)) (number _ _ (same 1 (lit< tt))) (number _ _ (same 2 (lit< tt))) hour
-    (number _ _ (same 5 (lit< tt))) (number _ _ (same 6 (lit< tt))) nanoseconds
+    same_fields s.fields t.fields (same 0 (lit< tt)) (number _ _ (same 1 (lit< tt))) (number _ _ (same 2 (lit< tt)))
+    hour (number _ _ (same 5 (lit< tt))) (number _ _ (same 6 (lit< tt))) nanoseconds
 
 -- a date time that is read has no other parts
 pub same_shown : (s t : Shown) → IsPlain s → IsPlain t → ((k : ℕ) → k < 11 → value s k ≡ value t k) → s ≡ t

@@ -27,8 +27,8 @@ value s k = if k == 0 then s.fields.year
     else (if k == 10 then s.ut_offset
     else pos 0))))))))))
 
--- the parts that a conversion shows; 11 if it depends on the year, and 12 if it depends on the whole
--- date, without showing them
+-- the parts that a conversion shows; 11 if it depends on the year, and 12 if it depends on the
+-- whole date, without showing them
 unfoldable pub parts_of : Conversion → List ℕ
 parts_of Year = 0 ∷ []
 parts_of YearOfCentury = 11 ∷ []

@@ -7,4 +7,5 @@ pub returns-clause-reading : goal.returns-clause-reading
 returns-clause-reading c = λ pattern s plain hidden. record { plain = plain; prints = refl; hidden = hidden }
 
 pub returns-clause-not_refused : goal.returns-clause-not_refused
-returns-clause-not_refused c = λ pattern text s e readable reading fault. not_refused pattern text s e readable reading fault
+returns-clause-not_refused c = λ pattern text s e readable reading fault.
+    not_refused pattern text s e readable reading fault
