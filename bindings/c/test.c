@@ -44,6 +44,8 @@ static tz_alternate europe(void) {
 }
 
 static void test_layout(void) {
+  EXPECT(sizeof(tz_date), 8);
+  EXPECT(sizeof(tz_week_date), 8);
   size_t layout[TZ_LAYOUT_LENGTH] = {0};
   static const size_t sizes[TZ_LAYOUT_LENGTH] = {
       TZ_ABI,           sizeof(tz_local_time_type), sizeof(tz_day),        sizeof(tz_alternate), sizeof(tz_rule),
@@ -258,6 +260,119 @@ static void test_utc(void) {
   REFUSED(tz_utc_sub(&utc, UINT64_MAX, 0, &other), TZ_OUT_OF_RANGE, other);
   tz_utc epoch = TZ_UTC_EPOCH;
   EXPECT(tz_utc_week_day(&epoch), 4);
+}
+
+static tz_date date_of(int32_t year, int month, int day) {
+  const tz_date date = {year, (uint8_t)month, (uint8_t)day};
+  return date;
+}
+
+static tz_week_date week_date_of(int32_t year, int week, int week_day) {
+  const tz_week_date week_date = {year, (uint8_t)week, (uint8_t)week_day};
+  return week_date;
+}
+
+/* A date as one number, such as 20000229. */
+static long long digits_of(tz_date date) { return date.year * 10000LL + date.month * 100 + date.month_day; }
+
+static void test_months(void) {
+  static const struct { tz_date date; int32_t months; tz_date wanted; } rows[] = {
+      {{2023, 1, 31}, 1, {2023, 2, 28}},
+      {{2024, 1, 31}, 1, {2024, 2, 29}},
+      {{2024, 1, 31}, -11, {2023, 2, 28}},
+      {{2024, 2, 29}, 12, {2025, 2, 28}},
+      {{2023, 12, 5}, 0, {2023, 12, 5}},
+      {{2000, 1, 1}, INT32_MAX, {178958970, 8, 1}},
+      {{2000, 1, 1}, INT32_MIN, {-178954971, 5, 1}},
+  };
+  tz_date date = {0};
+  for (size_t i = 0; i < sizeof rows / sizeof *rows; i++) {
+    CODE(tz_date_add_months(&rows[i].date, rows[i].months, &date), TZ_OK);
+    EXPECT(digits_of(date), digits_of(rows[i].wanted));
+  }
+  date = date_of(2023, 12, 31);
+  CODE(tz_date_add_months(&date, 2, &date), TZ_OK);
+  EXPECT(digits_of(date), 20240229);
+  const tz_date first = date_of(INT32_MIN, 1, 31), last = date_of(INT32_MAX, 12, 1);
+  REFUSED(tz_date_add_months(&first, -1, &date), TZ_OUT_OF_RANGE, date);
+  REFUSED(tz_date_add_months(&last, 1, &date), TZ_OUT_OF_RANGE, date);
+  CODE(tz_date_add_months(&last, 0, &date), TZ_OK);
+  EXPECT(digits_of(date), digits_of(last));
+  const tz_date month = date_of(2001, 13, 32), day = date_of(2001, 2, 29);
+  REFUSED(tz_date_add_months(&month, 0, &date), TZ_INVALID_MONTH, date);
+  REFUSED(tz_date_add_months(&day, INT32_MAX, &date), TZ_INVALID_MONTH_DAY, date);
+}
+
+static void test_week_dates(void) {
+  static const struct { tz_date date; tz_week_date week_date; } rows[] = {
+      {{2024, 12, 30}, {2025, 1, 1}},
+      {{2021, 1, 3}, {2020, 53, 7}},
+      {{2000, 2, 29}, {2000, 9, 2}},
+      {{INT32_MIN, 1, 1}, {INT32_MIN, 1, 2}},
+  };
+  tz_date date = {0};
+  tz_week_date week_date = {0};
+  for (size_t i = 0; i < sizeof rows / sizeof *rows; i++) {
+    CODE(tz_date_week_date(&rows[i].date, &week_date), TZ_OK);
+    EXPECT(memcmp(&week_date, &rows[i].week_date, 6), 0);
+    CODE(tz_date_from_week_date(&rows[i].week_date, &date), TZ_OK);
+    EXPECT(digits_of(date), digits_of(rows[i].date));
+  }
+  const tz_date last = date_of(INT32_MAX, 12, 31), none = date_of(2000, 4, 31), month = date_of(2000, 0, 1);
+  REFUSED(tz_date_week_date(&last, &week_date), TZ_OUT_OF_RANGE, week_date);
+  REFUSED(tz_date_week_date(&none, &week_date), TZ_INVALID_MONTH_DAY, week_date);
+  REFUSED(tz_date_week_date(&month, &week_date), TZ_INVALID_MONTH, week_date);
+  const tz_week_date no_dates[] = {week_date_of(2021, 53, 1), week_date_of(2020, 54, 1), week_date_of(2020, 0, 1),
+                                   week_date_of(2020, 1, 0),  week_date_of(2020, 1, 8),  week_date_of(INT32_MIN, 1, 1)};
+  for (size_t i = 0; i < sizeof no_dates / sizeof *no_dates; i++) REFUSED(tz_date_from_week_date(&no_dates[i], &date), TZ_OUT_OF_RANGE, date);
+}
+
+static void test_starts_of_days(void) {
+  /* Sao Paulo's clocks of 2018, which skip midnight: 2018-11-04 begins at 01:00. */
+  tz_local_time_type types[2] = {type_of(-10800, false, "-03"), type_of(-7200, true, "-02")};
+  const tz_day start = week_day_of(11, 1, 0), end = week_day_of(2, 3, 0);
+  tz_alternate rule = {0};
+  CODE(tz_alternate_new(&types[0], &types[1], &start, 0, &end, 0, &rule), TZ_OK);
+  tz_zone zone = {0};
+  zone.parts.types = types;
+  zone.parts.types_length = 2;
+  zone.parts.alternate = &rule;
+  zone.parts.alternate_length = 1;
+  CODE(tz_zone_check(&zone.parts, &zone.offsets), TZ_OK);
+  int64_t instant = 7;
+  tz_date date = date_of(2018, 11, 4);
+  CODE(tz_zone_start_of_day(&zone, &date, &instant), TZ_OK);
+  EXPECT(instant, 1541300400);
+  date.month_day = 5;
+  CODE(tz_zone_start_of_day(&zone, &date, &instant), TZ_OK);
+  EXPECT(instant, 1541383200);
+  date = date_of(INT32_MAX, 12, 31);
+  REFUSED(tz_zone_start_of_day(&zone, &date, &instant), TZ_OUT_OF_RANGE, instant);
+  date = date_of(2018, 13, 32);
+  REFUSED(tz_zone_start_of_day(&zone, &date, &instant), TZ_INVALID_MONTH, instant);
+  date = date_of(2018, 11, 31);
+  REFUSED(tz_zone_start_of_day(&zone, &date, &instant), TZ_INVALID_MONTH_DAY, instant);
+
+  /* Apia's clocks skip 2011-12-30, and after 2012 this zone has none. */
+  types[0] = type_of(-36000, true, "-10");
+  types[1] = type_of(50400, true, "+14");
+  const tz_transition transitions[2] = {{1325239200, 1}, {1356998400, 0}};
+  tz_zone island = {0};
+  island.parts.types = types;
+  island.parts.types_length = 2;
+  island.parts.transitions = transitions;
+  island.parts.transitions_length = 2;
+  CODE(tz_zone_check(&island.parts, &island.offsets), TZ_OK);
+  date = date_of(2011, 12, 30);
+  REFUSED(tz_zone_start_of_day(&island, &date, &instant), TZ_NO_DATE_TIME, instant);
+  date.month_day = 31;
+  CODE(tz_zone_start_of_day(&island, &date, &instant), TZ_OK);
+  EXPECT(instant, 1325239200);
+  date.month_day = 29;
+  CODE(tz_zone_start_of_day(&island, &date, &instant), TZ_OK);
+  EXPECT(instant, 1325152800);
+  date = date_of(2014, 1, 1);
+  REFUSED(tz_zone_start_of_day(&island, &date, &instant), TZ_NO_AVAILABLE_LOCAL_TIME_TYPE, instant);
 }
 
 static void test_date_times(void) {
@@ -993,6 +1108,9 @@ int main(int argc, char **argv) {
   test_conflicts();
   test_outs();
   test_utc();
+  test_months();
+  test_week_dates();
+  test_starts_of_days();
   test_date_times();
   test_texts();
   test_parsed_texts();

@@ -61,7 +61,7 @@ enum {
   TZ_NO_RULE = 3,
   /* The clock does not change any more, or has not changed before. */
   TZ_NO_CHANGE = 4,
-  /* The local time means no date time, by the choice that is given. */
+  /* The local time means no date time, by the choice that is given, or clocks skip the date. */
   TZ_NO_DATE_TIME = 5,
   /* No TZ string denotes the rule. */
   TZ_NO_TZ_STRING = 6,
@@ -323,6 +323,20 @@ typedef struct tz_parsed {
   bool has_offset;   /* if not, `ut_offset` is 0 */
 } tz_parsed;
 
+/* A date of the Gregorian calendar, also before its adoption. 8 bytes. Any values may be passed: calls check them. */
+typedef struct tz_date {
+  int32_t year;
+  uint8_t month;     /* 1 to 12 */
+  uint8_t month_day; /* from 1 */
+} tz_date;
+
+/* A week date of ISO 8601, as 2025-W01-3: a week begins on Monday, and is of the year in which its Thursday lies. 8 bytes. Any values may be passed. */
+typedef struct tz_week_date {
+  int32_t year;     /* to which the week belongs */
+  uint8_t week;     /* 1 to 52 or 53 */
+  uint8_t week_day; /* 1 (Monday) to 7 */
+} tz_week_date;
+
 /* Which date time a local time means. In a fold, where clocks go back: the first by TZ_COMPATIBLE and TZ_EARLIER, the last by TZ_LATER. In a gap, over
    which they jump: as much later as they jump by TZ_COMPATIBLE and TZ_LATER, as much earlier by TZ_EARLIER. By TZ_REJECT none, TZ_NO_DATE_TIME, in both.
    If clocks show it and also jump over it: the first that they show by TZ_COMPATIBLE, the first and the last entry of `tz_find_n` by TZ_EARLIER and
@@ -446,6 +460,25 @@ tz_code tz_date_time_from_timespec(int64_t unix_time, uint32_t nanoseconds, cons
 /* The date time of UTC at the same instant. TZ_OUT_OF_RANGE. */
 tz_code tz_date_time_to_utc(const tz_date_time *date_time, tz_utc *out);
 
+/* ---- Dates ---------------------------------------------------------------------------------------------------------------------------- */
+
+/* The instant at which a date begins in the zone: the least one at which clocks show the date. That is mostly midnight; but clocks may skip midnight,
+   show it twice, or be set back from the next day. TZ_INVALID_MONTH or TZ_INVALID_MONTH_DAY; TZ_NO_DATE_TIME if clocks skip the date whole, as when an
+   island crosses the date line; if the zone has no type at any instant at which clocks could show the date, the code of `tz_zone_type_at` at the first
+   of these. */
+tz_code tz_zone_start_of_day(const tz_zone *zone, const tz_date *date, int64_t *unix_time);
+
+/* The same day of the month this many months later, or earlier if they are negative; the last day of a month that has fewer days. So that a series of
+   dates does not stay there, add the months of each to the first date. TZ_INVALID_MONTH or TZ_INVALID_MONTH_DAY, or else TZ_OUT_OF_RANGE: the year is
+   outside 32 bits. */
+tz_code tz_date_add_months(const tz_date *date, int32_t months, tz_date *out);
+
+/* The week date of a date. TZ_INVALID_MONTH or TZ_INVALID_MONTH_DAY, or else TZ_OUT_OF_RANGE: the year of the week is outside 32 bits. */
+tz_code tz_date_week_date(const tz_date *date, tz_week_date *out);
+
+/* The date with a week date. TZ_OUT_OF_RANGE: the year has no such week, the week day is not 1 to 7, or the year of the date is outside 32 bits. */
+tz_code tz_date_from_week_date(const tz_week_date *week_date, tz_date *out);
+
 /* ---- Search --------------------------------------------------------------------------------------------------------------------------- */
 
 /* Everything that the fields mean in the zone, in order of Unix time: each instant at which clocks show them, and each jump over them. `count`
@@ -495,7 +528,8 @@ tz_code tz_error_text(tz_code code, char *text, size_t text_length, size_t *leng
 
 /* TZ_ABI, and the sizes in bytes of the types above in their order: tz_local_time_type, tz_day, tz_alternate, tz_rule, tz_conflict,
    tz_transition, tz_leap_second, tz_parts, tz_offsets, tz_zone, tz_fields, tz_utc, tz_date_time, tz_found, tz_segment, tz_change, tz_sizes,
-   tz_setting, tz_parsed. They are 20 numbers, TZ_LAYOUT_LENGTH. TZ_BUFFER_LENGTH if the buffer has another length. */
+   tz_setting, tz_parsed. They are 20 numbers, TZ_LAYOUT_LENGTH, without tz_date and tz_week_date, which are newer. TZ_BUFFER_LENGTH if the buffer
+   has another length. */
 #define TZ_LAYOUT_LENGTH 20
 tz_code tz_layout(size_t *out, size_t out_length);
 

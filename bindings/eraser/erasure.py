@@ -91,7 +91,10 @@ PACKAGES = (
         root="crate::proved",
         skipped=("crates/tz_c/src/laws.rt",),
         by_hand={"": "bindings/c/src/proved/mod.rs"},
-        others={name: f"tz::proved::{name}" for name in ("tz_base", "tz_rule", "tz_zone", "tz")},
+        others={
+            name: f"tz::proved::{name}"
+            for name in ("tz_base", "tz_rule", "tz_zone", "tz", "tz_civil")
+        },
         std_paths=tuple((old, new.replace("crate::", "tz::")) for old, new in STD),
         exports="bindings/c/src/exports.rs",
     ),

@@ -120,6 +120,8 @@ export declare const layout: {
   readonly tz_sizes: Readonly<Record<'size' | 'transitions' | 'types' | 'leap_seconds' | 'footer', number>>;
   readonly tz_setting: Readonly<Record<'size' | 'kind' | 'from' | 'until', number>>;
   readonly tz_parsed: Readonly<Record<'size' | 'local' | 'ut_offset' | 'has_offset', number>>;
+  readonly tz_date: Readonly<Record<'size' | 'year' | 'month' | 'month_day', number>>;
+  readonly tz_week_date: Readonly<Record<'size' | 'year' | 'week' | 'week_day', number>>;
 };
 
 /** A place in the module's memory, of a value of C's type T or of several. */
@@ -260,6 +262,31 @@ export interface Functions {
   /** The date time of UTC at the same instant. TZ_OUT_OF_RANGE. */
   tz_date_time_to_utc(date_time: Pointer<'tz_date_time'>, out: Pointer<'tz_utc'>): Code;
   /**
+   * The instant at which a date begins in the zone: the least one at which clocks show the date.
+   * That is mostly midnight; but clocks may skip midnight, show it twice, or be set back from the
+   * next day. TZ_INVALID_MONTH or TZ_INVALID_MONTH_DAY; TZ_NO_DATE_TIME if clocks skip the date
+   * whole, as when an island crosses the date line; if the zone has no type at any instant at which
+   * clocks could show the date, the code of `tz_zone_type_at` at the first of these.
+   */
+  tz_zone_start_of_day(zone: Pointer<'tz_zone'>, date: Pointer<'tz_date'>, unix_time: Pointer<'int64_t'>): Code;
+  /**
+   * The same day of the month this many months later, or earlier if they are negative; the last day
+   * of a month that has fewer days. So that a series of dates does not stay there, add the months
+   * of each to the first date. TZ_INVALID_MONTH or TZ_INVALID_MONTH_DAY, or else TZ_OUT_OF_RANGE:
+   * the year is outside 32 bits.
+   */
+  tz_date_add_months(date: Pointer<'tz_date'>, months: number, out: Pointer<'tz_date'>): Code;
+  /**
+   * The week date of a date. TZ_INVALID_MONTH or TZ_INVALID_MONTH_DAY, or else TZ_OUT_OF_RANGE: the
+   * year of the week is outside 32 bits.
+   */
+  tz_date_week_date(date: Pointer<'tz_date'>, out: Pointer<'tz_week_date'>): Code;
+  /**
+   * The date with a week date. TZ_OUT_OF_RANGE: the year has no such week, the week day is not 1 to
+   * 7, or the year of the date is outside 32 bits.
+   */
+  tz_date_from_week_date(week_date: Pointer<'tz_week_date'>, out: Pointer<'tz_date'>): Code;
+  /**
    * Everything that the fields mean in the zone, in order of Unix time: each instant at which
    * clocks show them, and each jump over them. `count` is how many there are; those from number
    * `skip` on go to the slots, as far as these go, and the other slots stay as they are. The first
@@ -313,8 +340,8 @@ export interface Functions {
    * TZ_ABI, and the sizes in bytes of the types above in their order: tz_local_time_type, tz_day,
    * tz_alternate, tz_rule, tz_conflict, tz_transition, tz_leap_second, tz_parts, tz_offsets,
    * tz_zone, tz_fields, tz_utc, tz_date_time, tz_found, tz_segment, tz_change, tz_sizes,
-   * tz_setting, tz_parsed. They are 20 numbers, TZ_LAYOUT_LENGTH. TZ_BUFFER_LENGTH if the buffer
-   * has another length.
+   * tz_setting, tz_parsed. They are 20 numbers, TZ_LAYOUT_LENGTH, without tz_date and tz_week_date,
+   * which are newer. TZ_BUFFER_LENGTH if the buffer has another length.
    */
   tz_layout(out: Pointer<'size_t'>, out_length: number): Code;
   /**

@@ -121,6 +121,8 @@ export const layout = Object.freeze({
   tz_sizes: Object.freeze({ size: 16, transitions: 0, types: 4, leap_seconds: 8, footer: 12 }),
   tz_setting: Object.freeze({ size: 12, kind: 0, from: 4, until: 8 }),
   tz_parsed: Object.freeze({ size: 32, local: 0, ut_offset: 24, has_offset: 28 }),
+  tz_date: Object.freeze({ size: 8, year: 0, month: 4, month_day: 5 }),
+  tz_week_date: Object.freeze({ size: 8, year: 0, week: 4, week_day: 5 }),
 });
 
 /** What `tz_layout` writes. */
@@ -163,6 +165,10 @@ const FUNCTIONS = {
   tz_date_time_from_timespec_and_local: 4,
   tz_date_time_from_timespec: 4,
   tz_date_time_to_utc: 2,
+  tz_zone_start_of_day: 3,
+  tz_date_add_months: 3,
+  tz_date_week_date: 2,
+  tz_date_from_week_date: 2,
   tz_find_n: 6,
   tz_find_one: 4,
   tz_column_offsets: 7,

@@ -7,13 +7,15 @@
 use crate::pointers::lent;
 use crate::pointers::{Out, list, list_mut, one};
 use crate::proved::tz_c::date_times::ParsedData;
+use crate::proved::tz_c::dates::DateData;
 use crate::proved::tz_c::rule_data::RuleData;
 use crate::proved::tz_c::texts::SettingData;
 use crate::proved::tz_c::zone_data::ZoneData;
 use crate::proved::tz_c::zones::{ChangeData, ConflictData, OffsetsData, PartsData, SegmentData};
-use crate::proved::tz_c::{codes, columns, date_times, searches, texts, zones};
+use crate::proved::tz_c::{codes, columns, date_times, dates, searches, texts, zones};
 use tz::proved::tz::inner::{DateTimeData, Fields, FoundData, UtcData};
 use tz::proved::tz::{DateTime, UtcDateTime};
+use tz::proved::tz_civil::WeekDate;
 use tz::proved::tz_rule::inner::{AlternateData, DayData};
 use tz::proved::tz_rule::timezone::LocalTimeType;
 use tz::proved::tz_zone::inner::FileSizes;
@@ -458,6 +460,79 @@ pub unsafe extern "C" fn tz_date_time_read(
     // SAFETY: tz.h asks of a caller what these require.
     let (text, mut out) = unsafe { (list(text, text_length), Out::new(out)) };
     let answer = date_times::tz_date_time_read(text, &mut out.value);
+    // SAFETY: tz.h asks of a caller what these require.
+    unsafe { out.write(answer) };
+    answer
+}
+
+/// The least instant at which the zone's clock shows a date, at which `TimeZoneRef::start_of_day`
+/// returns its date time.
+///
+/// # Safety
+///
+/// What tz.h asks of a caller.
+#[unsafe(no_mangle)]
+pub unsafe extern "C" fn tz_zone_start_of_day(
+    zone: *const Zone,
+    date: *const DateData,
+    unix_time: *mut i64,
+) -> u32 {
+    // SAFETY: tz.h asks of a caller what these require.
+    let (zone, date, mut unix_time) = unsafe { (one(zone).data(), one(date), Out::new(unix_time)) };
+    let answer = dates::tz_zone_start_of_day(&zone, date, &mut unix_time.value);
+    // SAFETY: tz.h asks of a caller what these require.
+    unsafe { unix_time.write(answer) };
+    answer
+}
+
+/// The date this many months later, or earlier if they are negative, as `Date::checked_add_months`
+/// finds it.
+///
+/// # Safety
+///
+/// What tz.h asks of a caller.
+#[unsafe(no_mangle)]
+pub unsafe extern "C" fn tz_date_add_months(
+    date: *const DateData,
+    months: i32,
+    out: *mut DateData,
+) -> u32 {
+    // SAFETY: tz.h asks of a caller what these require.
+    let (date, mut out) = unsafe { (one(date), Out::new(out)) };
+    let answer = dates::tz_date_add_months(date, months, &mut out.value);
+    // SAFETY: tz.h asks of a caller what these require.
+    unsafe { out.write(answer) };
+    answer
+}
+
+/// The week date of a date, as `Date::week_date` finds it.
+///
+/// # Safety
+///
+/// What tz.h asks of a caller.
+#[unsafe(no_mangle)]
+pub unsafe extern "C" fn tz_date_week_date(date: *const DateData, out: *mut WeekDate) -> u32 {
+    // SAFETY: tz.h asks of a caller what these require.
+    let (date, mut out) = unsafe { (one(date), Out::new(out)) };
+    let answer = dates::tz_date_week_date(date, &mut out.value);
+    // SAFETY: tz.h asks of a caller what these require.
+    unsafe { out.write(answer) };
+    answer
+}
+
+/// The date with a week date, as `Date::from_week_date` finds it.
+///
+/// # Safety
+///
+/// What tz.h asks of a caller.
+#[unsafe(no_mangle)]
+pub unsafe extern "C" fn tz_date_from_week_date(
+    week_date: *const WeekDate,
+    out: *mut DateData,
+) -> u32 {
+    // SAFETY: tz.h asks of a caller what these require.
+    let (week_date, mut out) = unsafe { (one(week_date), Out::new(out)) };
+    let answer = dates::tz_date_from_week_date(week_date, &mut out.value);
     // SAFETY: tz.h asks of a caller what these require.
     unsafe { out.write(answer) };
     answer

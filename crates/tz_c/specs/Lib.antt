@@ -1,5 +1,6 @@
 pub mod Codes
 pub mod Columns
+pub mod Dates
 pub mod DateTimeTexts
 pub mod DateTimes
 pub mod ErrorTexts

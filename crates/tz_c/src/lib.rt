@@ -5,6 +5,7 @@
 mod codes;
 mod columns;
 mod date_times;
+mod dates;
 pub mod laws;
 mod rule_data;
 mod searches;

@@ -194,6 +194,22 @@ class Parsed(Structure):
     ]
 
 
+class Date(Structure):
+    _fields_ = [
+        ("year", c_int32),
+        ("month", c_uint8),
+        ("month_day", c_uint8),
+    ]
+
+
+class WeekDate(Structure):
+    _fields_ = [
+        ("year", c_int32),
+        ("week", c_uint8),
+        ("week_day", c_uint8),
+    ]
+
+
 # In the order in which tz_layout writes their sizes, after the number of the layout.
 LAYOUT = (
     LocalTimeType,
@@ -253,6 +269,10 @@ CALLS = {
     "tz_date_time_from_timespec_and_local": (c_uint32, c_int64, c_uint32, POINTER(LocalTimeType), POINTER(DateTime)),
     "tz_date_time_from_timespec": (c_uint32, c_int64, c_uint32, POINTER(Zone), POINTER(DateTime)),
     "tz_date_time_to_utc": (c_uint32, POINTER(DateTime), POINTER(Utc)),
+    "tz_zone_start_of_day": (c_uint32, POINTER(Zone), POINTER(Date), POINTER(c_int64)),
+    "tz_date_add_months": (c_uint32, POINTER(Date), c_int32, POINTER(Date)),
+    "tz_date_week_date": (c_uint32, POINTER(Date), POINTER(WeekDate)),
+    "tz_date_from_week_date": (c_uint32, POINTER(WeekDate), POINTER(Date)),
     "tz_find_n": (c_uint32, POINTER(LocalTime), POINTER(Zone), c_size_t, c_void_p, c_size_t, POINTER(c_size_t)),
     "tz_find_one": (c_uint32, POINTER(LocalTime), c_uint8, POINTER(Zone), POINTER(DateTime)),
     "tz_column_offsets": (c_uint32, c_void_p, c_size_t, POINTER(Zone), c_void_p, c_size_t, c_void_p, c_size_t),

@@ -5,6 +5,7 @@
 pub(crate) mod codes;
 pub(crate) mod columns;
 pub(crate) mod date_times;
+pub(crate) mod dates;
 
 pub(crate) mod rule_data;
 pub(crate) mod searches;
