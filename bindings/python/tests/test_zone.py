@@ -447,6 +447,76 @@ class Times(unittest.TestCase):
         self.assertEqual(len(set(map(id, zones))), 1)
 
 
+class Days(unittest.TestCase):
+    def test_rows(self):
+        for name, day, shown in (
+            ("America/Sao_Paulo", "2018-11-04", "01:00:00-02:00"),
+            ("America/Sao_Paulo", "2018-11-05", "00:00:00-02:00"),
+            ("America/Toronto", "1919-03-31", "00:30:00-04:00"),
+            ("America/Havana", "2025-11-02", "00:00:00-04:00"),
+            ("America/Havana", "2025-03-09", "01:00:00-04:00"),
+            ("America/St_Johns", "2010-11-07", "00:00:00-02:30"),
+            ("Antarctica/Casey", "2016-10-22", "03:00:00+11:00"),
+            ("Pacific/Apia", "2011-12-29", "00:00:00-10:00"),
+            ("Pacific/Apia", "2011-12-30", None),
+            ("Pacific/Apia", "2011-12-31", "00:00:00+14:00"),
+            ("Pacific/Kwajalein", "1993-08-20", "00:00:00-12:00"),
+            ("Pacific/Kwajalein", "1993-08-21", None),
+            ("Pacific/Kiritimati", "1994-12-31", None),
+            ("right/America/Sao_Paulo", "2018-11-04", "01:00:00-02:00"),
+            ("right/Europe/Paris", "2017-01-01", "00:00:00+01:00"),
+            ("right/Pacific/Apia", "2011-12-30", None),
+        ):
+            for zone in (ZoneInfo(name), ZoneInfo.no_cache(name)):
+                start = zone.start_of_day(date.fromisoformat(day))
+                with self.subTest((name, day)):
+                    self.assertEqual(start and start.isoformat(), shown and f"{day}T{shown}")
+                    if start is not None:
+                        self.assertIs(start.tzinfo, zone)
+                        self.assertEqual(start.fold, 0)
+
+    def test_first_instant_of_the_date(self):
+        """Beside the first instant that `zoneinfo` shows on the date, by quarters of an hour."""
+        steps = [timedelta(minutes=minutes) for minutes in range(-15 * 60, 40 * 60, 15)]
+        for name in ("America/Havana", "Australia/Lord_Howe", "Africa/Cairo", "Atlantic/Azores"):
+            zone, other = ZoneInfo(name), zoneinfo.ZoneInfo(name)
+            for number in range(date(2023, 1, 1).toordinal(), date(2026, 1, 1).toordinal()):
+                day = date.fromordinal(number)
+                midnight = datetime(day.year, day.month, day.day, tzinfo=timezone.utc)
+                shown = ((midnight + step).astimezone(other) for step in steps)
+                wanted = next(it for it in shown if it.date() == day)
+                start = zone.start_of_day(day)
+                self.assertEqual(start.replace(tzinfo=None), wanted.replace(tzinfo=None))
+                self.assertEqual(start.utcoffset(), wanted.utcoffset(), (name, day))
+
+    def test_ends(self):
+        for text in ("AAA-24", "AAA24", "AAA-14BBB,J60,J300", "AAA12BBB,J60,J300"):
+            zone = ZoneInfo.from_tz_string(text)
+            for day in (date.min, date.max):
+                start = zone.start_of_day(day)
+                self.assertEqual(start, datetime(day.year, day.month, day.day, tzinfo=zone))
+        for zone in (ZoneInfo("Asia/Tokyo"), ZoneInfo("right/Asia/Tokyo")):
+            for day in (datetime.min, datetime.max):
+                self.assertEqual(zone.start_of_day(day).date(), day.date())
+
+    def test_given(self):
+        zone = ZoneInfo("America/Sao_Paulo")
+        start = zone.start_of_day(date(2018, 11, 4))
+        for day in (datetime(2018, 11, 4, 23, 59), start):
+            self.assertEqual(zone.start_of_day(day).isoformat(), start.isoformat())
+        for wrong in (None, 20181104, "2018-11-04", time(1)):
+            with self.subTest(wrong), self.assertRaises(TypeError):
+                zone.start_of_day(wrong)
+
+    def test_no_clock(self):
+        """No clock is known before the leap seconds of this file."""
+        zone = zone_of([(94694400, 0)], [(3600, 0, "AAA")], "AAA-1", [(78796800, 10)], "4")
+        for day in (date(1970, 1, 1), date.min):
+            with self.assertRaisesRegex(TzError, str(day)):
+                zone.start_of_day(day)
+        self.assertEqual(str(zone.start_of_day(date(1980, 1, 1))), "1980-01-01 00:00:00+01:00")
+
+
 class Module(unittest.TestCase):
     def test_names(self):
         for name in tz.__all__:
@@ -474,6 +544,7 @@ class Module(unittest.TestCase):
             "OK": _library.OK,
             "NO_AVAILABLE_LOCAL_TIME_TYPE": _library.NO_TYPE,
             "NO_CHANGE": _library.NO_CHANGE,
+            "NO_DATE_TIME": _library.NO_DATE_TIME,
             "MEMORY": _library.MEMORY,
             "NONE": _library.NONE,
             "FIXED": _library.FIXED,

@@ -9,7 +9,7 @@ from typing import Any, Optional, Set
 from ._structures import ABI, CALLS, LAYOUT, LocalTimeType
 
 NONE, FIXED, ALTERNATE = range(3)  # kinds of rules
-OK, NO_TYPE, NO_CHANGE, MEMORY = 0, 2, 4, 255
+OK, NO_TYPE, NO_CHANGE, NO_DATE_TIME, MEMORY = 0, 2, 4, 5, 255
 STRING_CODES = range(80, 94)  # a TZ string is refused
 CHOICES = {"compatible": 0, "earlier": 1, "later": 2, "reject": 3}
 
@@ -43,6 +43,7 @@ type_at = _call("tz_zone_type_at", quick=True)
 segment_at = _call("tz_zone_segment_at", quick=True)
 following = _call("tz_zone_following", quick=True)
 preceding = _call("tz_zone_preceding", quick=True)
+start_of_day = _call("tz_zone_start_of_day", quick=True)
 find_n = _call("tz_find_n", quick=True)
 column_offsets, column_date_times = _call("tz_column_offsets"), _call("tz_column_date_times")
 column_instants = _call("tz_column_instants")

@@ -9,8 +9,8 @@ import threading
 import weakref
 import zoneinfo
 from collections import OrderedDict
-from ctypes import addressof, byref, c_size_t, c_void_p, cast
-from datetime import datetime, timedelta
+from ctypes import addressof, byref, c_int64, c_size_t, c_void_p, cast
+from datetime import date, datetime, timedelta
 from importlib import resources
 from typing import TYPE_CHECKING, Any, BinaryIO, ClassVar, Dict, Iterable, List, Literal, Optional
 from typing import Tuple
@@ -276,6 +276,34 @@ class ZoneInfo(zoneinfo.ZoneInfo):
             if shown[0].before.unix_time < instant:
                 return local.replace(fold=1)
         return local
+
+    def start_of_day(self, day: date) -> Optional[datetime]:
+        """The first date and time that clocks show of a date, or ``None`` if they skip the date.
+
+        That is mostly midnight, but clocks may skip midnight or show it twice. They skip a date as
+        when an island crosses the date line.
+
+        >>> from datetime import date
+        >>> print(ZoneInfo("America/Sao_Paulo").start_of_day(date(2018, 11, 4)))
+        2018-11-04 01:00:00-02:00
+        >>> print(ZoneInfo("Pacific/Apia").start_of_day(date(2011, 12, 30)))
+        None
+
+        Of a `datetime` the date counts alone, as in `datetime.combine`. Raises `TzError` if the
+        zone has no offset at any instant of the date.
+        """
+        if not isinstance(day, date):
+            raise TypeError(f"a date is required, not {type(day).__name__}")
+        instant = c_int64()
+        given = _structures.Date(day.year, day.month, day.day)
+        code = _library.start_of_day(self._zone, given, byref(instant))
+        if code == _library.NO_DATE_TIME:
+            return None
+        check(code, f"{self}: {day}")
+        midnight = datetime(day.year, day.month, day.day, tzinfo=self)
+        shown = instant.value + self._span_at(instant.value).kind.ut_offset
+        # Clocks have not shown the date before, so the fold is 0.
+        return midnight + timedelta(seconds=shown - _seconds(midnight))
 
     def offsets(self, instants: Any, *, out: Any = None, codes: Any = None) -> Any:
         """The offsets from UTC of a column of instants.
