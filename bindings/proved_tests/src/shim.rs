@@ -1,13 +1,12 @@
 //! What the program's proved library uses of its standard library: all that the program has, but
 //! writers, of which the vectors of tests are some.
 
-pub use crate::shim_of_program::{Vec, alloc, dec2flt};
+pub use crate::shim_of_program::{ArrayString, Vec, alloc, dec2flt};
 
 /// Input and output.
 pub mod io {
     use super::Vec;
     use super::alloc::Allocator;
-    use std::fmt;
 
     pub use std::io::{Read, Result};
 
@@ -15,24 +14,9 @@ pub mod io {
     pub trait Write: Sized {
         fn write(&mut self, bytes: &[u8]) -> Result<usize>;
 
+        /// As std's writers have it: the program calls none.
+        #[allow(dead_code)]
         fn flush(&mut self) -> Result<()>;
-
-        fn write_fmt(&mut self, arguments: fmt::Arguments<'_>) -> Result<()> {
-            std::io::Write::write_fmt(&mut Std(self), arguments)
-        }
-    }
-
-    /// A writer of std.
-    struct Std<'a, W>(&'a mut W);
-
-    impl<W: Write> std::io::Write for Std<'_, W> {
-        fn write(&mut self, bytes: &[u8]) -> Result<usize> {
-            self.0.write(bytes)
-        }
-
-        fn flush(&mut self) -> Result<()> {
-            self.0.flush()
-        }
     }
 
     impl<A: Allocator> Write for Vec<u8, A> {

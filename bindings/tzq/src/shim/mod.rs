@@ -3,4 +3,4 @@
 pub mod dec2flt;
 pub mod io;
 
-pub use tz::shim::{Vec, alloc};
+pub use tz::shim::{ArrayString, Vec, alloc};

@@ -1,7 +1,7 @@
 //! The program over arguments, a file reader, an input and outputs that are passed in.
 
 ghost use Rattle.std.specs.Prelude.{◌≡◌, ◌≤◌, ◌⊎◌, ℤ, IfSome, IfNone, IfOk, IfErr, FitsSigned};
-ghost use Rattle.tz_query.specs.Failures.{AreArguments, IsFailure, NamesUnreadFile, line_of};
+ghost use Rattle.tz_query.specs.Failures.{AreArguments, HasEnded, IsFailure, IsRefusal, LacksMemory, NamesUnreadFile, line_of};
 ghost use Rattle.tz_query.specs.Streams.{WritesFront};
 ghost use Rattle.std.specs.Fn.{FnReturnsAt};
 ghost use Rattle.std.specs.Int.{w32};
@@ -13,7 +13,9 @@ ghost use Rattle.tz_zone.specs.ZoneRef.{own_zone_of};
 
 use super::read_query::read_number;
 use crate::query::output::{RunFault, run, write_front};
+use arrayvec::ArrayString;
 use std::alloc::Allocator;
+use std::fmt::Write as _;
 use std::io::{Read, Write};
 use tz::error::ReadFault;
 use tz::{TimeZone, TzError};
@@ -73,6 +75,8 @@ fn zone_of_arguments<A: Allocator + Copy, F: Fn(&str) -> Result<Vec<u8>, ReadFau
         → ¬ AreArguments (texts_of arguments.now)) }
     ensures unread { IfErr result (λ fault. fault ≡ Fault.File
         → NamesUnreadFile (FnReturnsAt F.Fn reader) (texts_of arguments.now)) }
+    ensures starved { IfErr result (λ fault. fault ≡ Fault.Memory
+        → LacksMemory (FnReturnsAt F.Fn reader) (texts_of arguments.now)) }
     ensures refused { IfErr result (λ fault. (e : TzError) → fault ≡ Fault.Zone e
         → NamesRefusedZone (FnReturnsAt F.Fn reader) (texts_of arguments.now)) }
 {
@@ -103,6 +107,22 @@ fn fail<E: Write>(err: &mut E, line: &str) -> u8
     // An error of the error output has nowhere to be told.
     let _ = write_front(err, line.as_bytes());
     1
+}
+
+/// The most bytes of an error's text.
+const LONGEST: usize = 128;
+
+/// Prints the line of a refused zone, as far as it can be written.
+fn refuse<E: Write>(err: &mut E, error: &TzError)
+    ensures { IsRefusal (E.contents err.old) (E.contents err.new) }
+{
+    let mut text = ArrayString::<LONGEST>::new();
+    if !write_front(err, b"tzq: zone refused: ") || write!(text, "{error}").is_err() {
+        return;
+    }
+    if write_front(err, text.as_str().as_bytes()) {
+        let _ = write_front(err, b"\n");
+    }
 }
 
 /// The line of a run that ends without all answers.
@@ -140,9 +160,13 @@ where
     E: Write,
     requires { F.IsAlwaysCallable reader }
     ensures status { result ≤ 2 }
+    ensures quiet { result ≡ 0 → err.new ≡ err.old }
     ensures refused { result ≡ 2
         → NamesRefusedZone (FnReturnsAt F.Fn reader) (texts_of arguments.now) }
+    ensures refusal { result ≡ 2 → IsRefusal (E.contents err.old) (E.contents err.new) }
     ensures failed { result ≡ 1 → IsFailure (FnReturnsAt F.Fn reader) (texts_of arguments.now)
+        ((input.new ≡ input.old) × (out.new ≡ out.old))
+        (HasEnded W.contents (R.remaining input.old) (R.remaining input.new) out.old out.new)
         (E.contents err.old) (E.contents err.new) }
     ensures unread { (result ≡ 2) ⊎ ((zone : Zone)
         → ¬ NamesZone (FnReturnsAt F.Fn reader) (texts_of arguments.now) zone)
@@ -163,7 +187,7 @@ where
         Err(Fault::File) => fail(err, "tzq: cannot read file\n"),
         Err(Fault::Memory) => fail(err, "tzq: no memory\n"),
         Err(Fault::Zone(error)) => {
-            let _ = writeln!(err, "tzq: zone refused: {error}");
+            refuse(err, &error);
             2
         }
     }

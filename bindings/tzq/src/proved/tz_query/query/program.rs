@@ -3,9 +3,11 @@
 
 use super::read_query::read_number;
 use crate::proved::tz_query::query::output::{RunFault, run, write_front};
+use crate::shim::ArrayString;
 use crate::shim::Vec;
 use crate::shim::alloc::Allocator;
 use crate::shim::io::{Read, Write};
+use core::fmt::Write as _;
 use tz::proved::tz::error::ReadFault;
 use tz::proved::tz::{TimeZone, TzError};
 
@@ -71,6 +73,20 @@ pub(crate) fn fail<E: Write>(err: &mut E, line: &str) -> u8 {
     1
 }
 
+/// The most bytes of an error's text.
+const LONGEST: usize = 128;
+
+/// Prints the line of a refused zone, as far as it can be written.
+fn refuse<E: Write>(err: &mut E, error: &TzError) {
+    let mut text = ArrayString::<LONGEST>::new();
+    if !write_front(err, b"tzq: zone refused: ") || write!(text, "{error}").is_err() {
+        return;
+    }
+    if write_front(err, text.as_str().as_bytes()) {
+        let _ = write_front(err, b"\n");
+    }
+}
+
 /// The line of a run that ends without all answers.
 pub(crate) fn line_of(fault: RunFault) -> &'static str {
     match fault {
@@ -112,7 +128,7 @@ where
         Err(Fault::File) => fail(err, "tzq: cannot read file\n"),
         Err(Fault::Memory) => fail(err, "tzq: no memory\n"),
         Err(Fault::Zone(error)) => {
-            let _ = writeln!(err, "tzq: zone refused: {error}");
+            refuse(err, &error);
             2
         }
     }

@@ -171,6 +171,16 @@ returns-in_err-fixed-in-text-clause-bad g c =
     let p = err_from_is_err_and step.result step.ensures.1 in
     rw p.1 (λ is. absurd (never_bad _ _ p.2 is))
 
+pub returns-in_err-fixed-in-text-clause-starved : goal.returns-in_err-fixed-in-text-clause-starved
+returns-in_err-fixed-in-text-clause-starved g c =
+    let offset = c.in_ok-ut_offset-in-text.ut_offset in
+    let number = value_in c.read_offset.result offset _ c.in_ok-ut_offset-in-text.ensures.ok_part
+    c.read_offset.ensures.some in
+    let step = c.from_residual-in_err-fixed-in-text in
+    let p = err_from_is_err_and step.result step.ensures.1 in
+    let two = two_texts c.args.arguments.now _ c.in-text.len_at_least c.in-text.len_below in
+    rw p.1 (λ is. (_, _, two, inl (c.in-text.is-text, (offset, number.0, number.1))))
+
 pub returns-in_err-fixed-in-text-clause-unread : goal.returns-in_err-fixed-in-text-clause-unread
 returns-in_err-fixed-in-text-clause-unread g c =
     let step = c.from_residual-in_err-fixed-in-text in
@@ -182,6 +192,14 @@ returns-in_err-from_tz_data-in-Ok-clause-bad g c =
     let step = c.from_residual-in_err-from_tz_data-in-Ok in
     let p = err_from_is_err_and step.result step.ensures.1 in
     rw p.1 (λ is. absurd (never_bad _ _ p.2 is))
+
+pub returns-in_err-from_tz_data-in-Ok-clause-starved : goal.returns-in_err-from_tz_data-in-Ok-clause-starved
+returns-in_err-from_tz_data-in-Ok-clause-starved g c =
+    let step = c.from_residual-in_err-from_tz_data-in-Ok in
+    let p = err_from_is_err_and step.result step.ensures.1 in
+    let two = two_texts c.args.arguments.now _ c.in-text-2.len_at_least c.in-text-2.len_below in
+    let read = says_at g.F.Fn c.reader.ensures c.in-Ok.is in
+    rw p.1 (λ is. (_, _, two, inr (inl (c.in-text-2.is-text, inr (c.in-Ok.bytes, read)))))
 
 pub returns-in_err-from_tz_data-in-Ok-clause-unread : goal.returns-in_err-from_tz_data-in-Ok-clause-unread
 returns-in_err-from_tz_data-in-Ok-clause-unread g c =
@@ -195,6 +213,12 @@ returns-in-text-2-clause-unread g c = λ is.
     let failed = says_at g.F.Fn c.reader.ensures (c.in-Err-Failed.is ∙ ap Err c.in-Err-Failed.field-0-is) in
     (_, _, two, inl (c.in-text-2.is-text, (c.in-Err-Failed.field-0-0, failed)))
 
+pub returns-in-Err-Memory-clause-starved : goal.returns-in-Err-Memory-clause-starved
+returns-in-Err-Memory-clause-starved g c = λ is.
+    let two = two_texts c.args.arguments.now _ c.in-text-2.len_at_least c.in-text-2.len_below in
+    let lacked = says_at g.F.Fn c.reader.ensures (c.in-Err-Memory.is ∙ ap Err c.in-Err-Memory.field-0-is) in
+    (_, _, two, inr (inl (c.in-text-2.is-text, inl lacked)))
+
 pub returns-in-Err-Io-clause-unread : goal.returns-in-Err-Io-clause-unread
 returns-in-Err-Io-clause-unread g c = λ is.
     let two = two_texts c.args.arguments.now _ c.in-text-3.len_at_least c.in-text-3.len_below in
@@ -207,6 +231,12 @@ returns-in-text-3 g c =
       ok = search rules;
       bad = λ is. absurd (never_bad _ _ c.from.ensures is);
       unread = λ is. absurd (never_unread _ _ c.from.ensures is);
+      starved = λ is. (
+        _,
+        _,
+        two_texts c.args.arguments.now _ c.in-text-3.len_at_least c.in-text-3.len_below,
+        inr (inr c.in-text-3.is-text),
+      );
       refused = λ e is.
           let (same, other) = refused_by _ _ c.from.ensures e is in
           refuses c.args.arguments.now _ c.in-text-3.len_at_least c.in-text-3.len_below
