@@ -2,16 +2,22 @@
 //!
 //! A function here does nothing, or looks at each type of a zone. Its contract is the law.
 
-ghost use Rattle.std.specs.Prelude.{◌≡◌, ℕ, ◌<◌, ℤ, pos, ◌+ℤ◌, ◌-ℤ◌, ◌≤ℤ◌, ◌<ℤ◌, List, [], ◌∷◌, ◌++◌, ◌↔◌, Some, None, length, slice_get, map, codes, FitsSigned};
+ghost use Rattle.std.specs.Prelude.{◌≡◌, ℕ, ◌<◌, ℤ, pos, ◌+ℤ◌, ◌-ℤ◌, ◌≤ℤ◌, ◌<ℤ◌, List, [], ◌∷◌, ◌++◌, ◌↔◌, Some, None, Bool, length, slice_get, map, codes, FitsSigned};
 ghost use Rattle.std.specs.Int.{w32};
 ghost use Rattle.std.specs.Iterator.{YieldsThen};
+ghost use Rattle.tz_base.specs.declared.error.TzError.{TzError};
 ghost use Rattle.tz_rule.specs.LocalTimeType.{LocalTimeType, IsLocalTimeType};
 ghost use Rattle.tz_rule.specs.Rule.{IsRuleType};
+ghost use Rattle.tz_rule.specs.declared.timezone.transition_rule.TransitionRule.{TransitionRule as Rule};
 ghost use Rattle.tz_zone.specs.Changes.{Change, change_of, IsChange, IsFollowing, IsPreceding, HasNoFollowing, HasNoPreceding};
 ghost use Rattle.tz_zone.specs.ChangesInTurn.{GivesFollowing, GivesPreceding, IsNthFollowing, IsNthPreceding};
 ghost use Rattle.tz_zone.specs.Table.{LeapSecond, Zone};
 ghost use Rattle.tz_zone.specs.LeapTime.{IsEffect, IsLeapTime};
 ghost use Rattle.tz_zone.specs.Clock.{IsClock};
+ghost use Rattle.tz_zone.specs.TzFile.{IsTzFile};
+ghost use Rattle.tz_zone.specs.TzFileFault.{FileFails};
+ghost use Rattle.tz_zone.specs.TzText.{IsTzText};
+ghost use Rattle.tz_zone.specs.TzTextFault.{IsTzTextFault};
 ghost use Rattle.tz_zone.specs.ValidZone.{AreLeapSeconds, ExpiresAt, IsValidZone};
 ghost use Rattle.tz_zone.specs.ZoneRef.{zone_of, own_zone_of};
 ghost use Rattle.tz_zone.specs.declared.clock.segment.Change.{Change as KeptChange};
@@ -45,6 +51,22 @@ pub fn expiries_change_no_leap_time()
     ensures { (leaps : List LeapSecond) (expiry : LeapSecond) (time : ℤ)
         → AreLeapSeconds (leaps ++ expiry ∷ []) → ExpiresAt (leaps ++ expiry ∷ []) time
         → (u v : ℤ) → IsLeapTime (leaps ++ expiry ∷ []) u v ↔ IsLeapTime leaps u v }
+{}
+
+/// The bytes of a TZif file denote one zone, and have no fault for which a reader refuses bytes: so
+/// [`TimeZone::from_tz_data`] returns that zone, or `Memory`.
+pub fn files_denote_one_zone()
+    ensures unique { (bytes : List ℕ) (y z : Zone) → IsTzFile bytes y → IsTzFile bytes z → y ≡ z }
+    ensures sound { (bytes : List ℕ) (z : Zone) (e : TzError) → IsTzFile bytes z
+        → ¬ FileFails bytes e }
+{}
+
+/// A TZ string denotes one rule, and has no fault for which a reader refuses a text.
+pub fn tz_strings_denote_one_rule()
+    ensures unique { (extended : Bool) (text : List ℕ) (r s : Rule) → IsTzText extended text r
+        → IsTzText extended text s → r ≡ s }
+    ensures sound { (extended : Bool) (text : List ℕ) (r : Rule) (e : TzError)
+        → IsTzText extended text r → ¬ IsTzTextFault extended text e }
 {}
 
 /// The parts of every borrowed zone make a valid zone.
