@@ -179,13 +179,14 @@ cut_segment r year s is =
     let first = year_start (negsuc 2147483645) in
     let end = year_start (pos 2147483646) in
     record {
-      from_is = by_lt_z s.from first
+      from_is = λ some. by_lt_z s.from first
           (λ less. let e : int_max s.from first ≡ first = omega (arith, ints, clamps) in
           inr (inl e)) (λ past. let e : int_max s.from first ≡ s.from = omega (arith, ints, clamps) in
-          rw e (inl is.from_is));
-      until_is = by_lt_z s.until end
+          rw e (inl (is.from_is, IsInRuleYears-between s.from past (omega (arith, ints, clamps, some)))));
+      until_is = λ some. by_lt_z s.until end
           (λ less. let e : int_min s.until end ≡ s.until = omega (arith, ints, clamps) in
-          rw e (inl is.until_is)) (λ past. let e : int_min s.until end ≡ end = omega (arith, ints, clamps) in
+          rw e (inl (is.until_is, IsInRuleYears-between s.until (omega (arith, ints, clamps, some)) less)))
+          (λ past. let e : int_min s.until end ≡ end = omega (arith, ints, clamps) in
           inr (inr e));
       one_type = λ v low high. (
         IsInRuleYears-between v (omega (arith, ints, clamps, low)) (omega (arith, ints, clamps, high)),
