@@ -30,6 +30,14 @@ rule_of_file bytes p footer extended rule same extended_same footer_same is =
     subst (λ (f : Option (List ℕ)). IsExtraRule (is_extended (part_of bytes)) f rule) footer_same
     (subst (λ (b : Bool). IsExtraRule b footer rule) (extended_same ∙ ap is_extended same) is)
 
+-- and so is a fault of it
+pub rule_fault_of_file : (bytes : List ℕ) (p : Part) (footer : Option (List ℕ)) (extended : Bool)
+    (e : TzError) → p ≡ part_of bytes → extended ≡ is_extended p → footer ≡ footer_of bytes
+    → ExtraRuleFails extended footer e → ExtraRuleFails (is_extended (part_of bytes)) (footer_of bytes) e
+rule_fault_of_file bytes p footer extended e same extended_same footer_same fails =
+    subst (λ (f : Option (List ℕ)). ExtraRuleFails (is_extended (part_of bytes)) f e) footer_same
+    (subst (λ (b : Bool). ExtraRuleFails b footer e) (extended_same ∙ ap is_extended same) fails)
+
 -- what is made of the tables and the rule is the zone of the file
 pub made_is_file : {X : Type 0} (bytes : List ℕ) (rule : Option TransitionRule) (made : Zone) (view : X
     → Zone) (r : Result X TzError) → IsFramed bytes → IsContent (part_of bytes).block (part_of bytes).counts.local_type
@@ -48,10 +56,10 @@ made_is_file bytes rule made view (Ok x) framed content holds of_file zone parts
 made_is_file bytes rule made view (Err e) framed content holds of_file zone parts valid = tt
 
 header_holds : (bytes : List ℕ) (e : TzFileError) → IsHeader bytes → HeaderFails bytes e → ⊥
-header_holds bytes (ParseData UnexpectedEof) h short = omega (arith, h.whole, short)
-header_holds bytes InvalidMagicNumber h fault = fault.1 h.magic
-header_holds bytes UnsupportedTzFileVersion h fault = fault.1 h.version
-header_holds bytes InvalidHeader h fault = fault.1 h.counts
+header_holds bytes (ParseData UnexpectedEof) h (short, magic, version) = omega (arith, h.whole, short)
+header_holds bytes InvalidMagicNumber h (whole, fails) = fails h.magic
+header_holds bytes UnsupportedTzFileVersion h (whole, magic, fails) = fails h.version
+header_holds bytes InvalidHeader h (whole, magic, version, fails) = fails h.counts
 header_holds bytes _ h fault = fault
 
 unit_holds : (w : Width) (bytes : List ℕ) (e : TzFileError) → IsUnit w bytes → UnitFails w bytes e → ⊥
@@ -94,13 +102,13 @@ type_made t InvalidTimeZoneDesignationChar is fault =
 
 type_holds : (block : Block) (i : ℕ) (e : TzError) → IsTypeRecord block i → TypeFails block i e → ⊥
 type_holds block i (TzFile InvalidDstIndicator) is fault = fault is.daylight
-type_holds block i (TzFile InvalidTimeZoneDesignationCharIndex) is fault = fault is.name
-type_holds block i (TypeFault e) is fault = type_made (type_at block i) e is.type fault.1
+type_holds block i (TzFile InvalidTimeZoneDesignationCharIndex) is (daylight, fails) = fails is.name
+type_holds block i (TypeFault e) is (daylight, name, fails) = type_made (type_at block i) e is.type fails
 type_holds block i _ is fault = fault
 
 content_holds : (block : Block) (count : ℕ) (e : TzError) → IsContent block count → ContentFails block count e → ⊥
-content_holds block count e c (inl (i, below, fault)) = type_holds block i e (c.types i below) fault
-content_holds block count e c (inr (is, fault)) = fault.2 (c.indicators fault.0 fault.1)
+content_holds block count e c (inl (i, below, before, fault)) = type_holds block i e (c.types i below) fault
+content_holds block count e c (inr (is, types, fault)) = fault.2 (c.indicators fault.0 fault.1)
 
 transitions_hold : (z : Zone) (e : TimeZoneError) → IsValidZone z
     → IsFirstTransitionFault z.transitions (length z.types) e → ⊥
@@ -119,7 +127,7 @@ pub file_holds : (bytes : List ℕ) (z : Zone) (e : TzError) → IsTzFile bytes 
 file_holds bytes z e f (inl (fault, is, there)) = frame_holds bytes fault f.framed there
 file_holds bytes z e f (inr (inl (framed, there))) =
     content_holds (part_of bytes).block (part_of bytes).counts.local_type e f.content there
-file_holds bytes z e f (inr (inr (inl (framed, there)))) =
+file_holds bytes z e f (inr (inr (inl (framed, content, there)))) =
     extra_rule_holds (is_extended (part_of bytes)) (footer_of bytes) z.extra_rule e f.rule there
 file_holds bytes z e f (inr (inr (inr (framed, content, rule, is, inl (named, fails))))) = fails f.leap_seconds
 file_holds bytes z e f (inr (inr (inr (framed, content, rule, is, inr (holds, there))))) =

@@ -1,6 +1,6 @@
--- Which faults of a TZif file are there. (RFC 8536, section 3.) One of a header, a block or the
--- file's end is there when what comes before it is as stated, one of the content or the footer when
--- headers and blocks are, and one of the zone's checks when all else is.
+-- Which fault of a TZif file is the first that is met: what comes before it is as stated. (RFC
+-- 8536, section 3.) Headers and blocks come first, from the magic number to the end of the file,
+-- then each type in turn, the indicators, the footer, and the checks of the zone.
 use Rattle.std.specs.Prelude.{◌≡◌, ◌≢◌, ℕ, ◌+◌, ◌*◌, ◌<◌, ◌≤◌, ◌⊎◌, Bool, List, [], length, Option, Some, None, IsUtf8, slice_index, alloc_error}
 use Rattle.std.specs.Int.{Width, w32, w64}
 use Rattle.tz_base.specs.declared.error.TzError.{TzError}
@@ -13,14 +13,18 @@ use Rattle.tz_rule.specs.LocalTimeType.{IsFirstTypeFault}
 use Rattle.tz_rule.specs.declared.timezone.transition_rule.TransitionRule.{TransitionRule}
 use Rattle.tz_zone.specs.TzTextFault.{IsTzTextFault}
 use Rattle.tz_zone.specs.ValidZone.{IsFirstZoneFault}
-use Rattle.tz_zone.specs.TzFile.{header_len, HasMagic, IsVersion, AreCounts, counts_of, IsHeader, end_at, IsUnit, after, Block, IsFlag, HasName, type_at, HasIndicators, IsContent, IsFirstVersion, IsFramed, part_of, footer_of, trimmed, IsBetweenLineFeeds, MayBeText, IsFooter, IsExtraRule, is_extended, zone_of_part, Part, HoldsLeapSeconds}
+use Rattle.tz_zone.specs.TzFile.{header_len, HasMagic, IsVersion, AreCounts, counts_of, IsHeader, end_at, IsUnit, after, Block, IsFlag, HasName, type_at, IsTypeRecord, HasIndicators, IsContent, IsFirstVersion, IsFramed, part_of, footer_of, trimmed, IsBetweenLineFeeds, MayBeText, IsFooter, IsExtraRule, is_extended, zone_of_part, Part, HoldsLeapSeconds}
 
--- faults of the header at the front
+-- the first fault of the header at the front
 abbrev pub HeaderFails : List ℕ → TzFileError → Type 0
-HeaderFails bytes (ParseData UnexpectedEof) = length bytes < header_len
+HeaderFails bytes (ParseData UnexpectedEof) = (length bytes < header_len)
+    × (4 ≤ length bytes → HasMagic bytes) × (5 ≤ length bytes → IsVersion (slice_index bytes 4))
 HeaderFails bytes InvalidMagicNumber = (4 ≤ length bytes) × ¬ HasMagic bytes
-HeaderFails bytes UnsupportedTzFileVersion = (5 ≤ length bytes) × ¬ IsVersion (slice_index bytes 4)
-HeaderFails bytes InvalidHeader = (header_len ≤ length bytes) × ¬ AreCounts (counts_of bytes)
+HeaderFails bytes UnsupportedTzFileVersion =
+    (5 ≤ length bytes) × HasMagic bytes × ¬ IsVersion (slice_index bytes 4)
+HeaderFails bytes InvalidHeader =
+    (header_len ≤ length bytes) × HasMagic bytes × IsVersion (slice_index bytes 4)
+    × ¬ AreCounts (counts_of bytes)
 HeaderFails _ _ = ⊥
 
 -- of the header or its block
@@ -39,13 +43,21 @@ FrameFails bytes e =
 abbrev pub TypeFails : Block → ℕ → TzError → Type 0
 TypeFails block i (TzFile InvalidDstIndicator) = ¬ IsFlag (slice_index block.types (i * 6 + 4))
 TypeFails block i (TzFile InvalidTimeZoneDesignationCharIndex) =
-    ¬ HasName block.names (slice_index block.types (i * 6 + 5))
-TypeFails block i (TypeFault fault) = HasName block.names (slice_index block.types (i * 6 + 5))
+    IsFlag (slice_index block.types (i * 6 + 4))
+    × ¬ HasName block.names (slice_index block.types (i * 6 + 5))
+TypeFails block i (TypeFault fault) =
+    IsFlag (slice_index block.types (i * 6 + 4))
+    × HasName block.names (slice_index block.types (i * 6 + 5))
     × IsFirstTypeFault (type_at block i) fault
 TypeFails _ _ _ = ⊥
 
-abbrev pub SomeTypeFails : Block → ℕ → TzError → Type 0
-SomeTypeFails block count e = (i : ℕ) × (i < count) × TypeFails block i e
+-- each record before one makes a type
+abbrev pub AreTypesBefore : Block → ℕ → Type 0
+AreTypesBefore block i = (j : ℕ) → j < i → IsTypeRecord block j
+
+-- of the first type record that makes none
+abbrev pub FirstTypeFails : Block → ℕ → TzError → Type 0
+FirstTypeFails block count e = (i : ℕ) × (i < count) × AreTypesBefore block i × TypeFails block i e
 
 -- of the indicators
 abbrev pub IndicatorsFail : Block → ℕ → Type 0
@@ -53,8 +65,9 @@ IndicatorsFail block count = (i : ℕ) × (i < count) × ¬ HasIndicators block 
 
 -- of the content of a block with this many types
 abbrev pub ContentFails : Block → ℕ → TzError → Type 0
-ContentFails block count e = SomeTypeFails block count e
-    ⊎ ((e ≡ TzFile InvalidStdWallUtLocal) × IndicatorsFail block count)
+ContentFails block count e =
+    FirstTypeFails block count e
+    ⊎ ((e ≡ TzFile InvalidStdWallUtLocal) × AreTypesBefore block count × IndicatorsFail block count)
 
 -- of a footer around its text: bytes that are not UTF-8 are refused for that
 abbrev pub FooterFails : List ℕ → TzFileError → Type 0
@@ -76,12 +89,13 @@ ZoneFails p rule e =
     ((e ≡ TimeZone InvalidLeapSecond) × ¬ HoldsLeapSeconds p)
     ⊎ (HoldsLeapSeconds p × IsFirstZoneFault (zone_of_part p rule) e)
 
--- the bytes fail as a file in this way
+-- the bytes are no file, and this is the first fault of theirs
 abbrev pub FileFails : List ℕ → TzError → Type 0
 FileFails bytes e =
     ((fault : TzFileError) × (e ≡ TzFile fault) × FrameFails bytes fault)
     ⊎ (IsFramed bytes × ContentFails (part_of bytes).block (part_of bytes).counts.local_type e)
-    ⊎ (IsFramed bytes × ExtraRuleFails (is_extended (part_of bytes)) (footer_of bytes) e)
+    ⊎ (IsFramed bytes × IsContent (part_of bytes).block (part_of bytes).counts.local_type
+    × ExtraRuleFails (is_extended (part_of bytes)) (footer_of bytes) e)
     ⊎ (IsFramed bytes × IsContent (part_of bytes).block (part_of bytes).counts.local_type
     × (rule : Option TransitionRule)
     × IsExtraRule (is_extended (part_of bytes)) (footer_of bytes) rule

@@ -189,8 +189,12 @@ fn bytes_stand_where_they_have_to(rt: HostRuntime) {
 #[test]
 fn the_first_fault_that_is_met_is_named(rt: HostRuntime) {
     const CUT: Fault = Fault::Text(ParseData(UnexpectedEof));
-    static ROWS: [(&str, Fault); 13] = [
+    static ROWS: [(&str, Fault); 14] = [
         ("<A_B>0C,0", CUT),
+        (
+            "<A_B>0CCCCCCCC,0,1",
+            Fault::Type(InvalidTimeZoneDesignationChar),
+        ),
         ("A_B0", Fault::Number),
         ("A25:60:60", Fault::Text(InvalidOffsetHour)),
         ("A25:0:60", Fault::Text(InvalidOffsetHour)),

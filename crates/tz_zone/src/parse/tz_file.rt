@@ -13,7 +13,7 @@ ghost use Rattle.tz_zone.specs.FileSizes.{AreSizesOf};
 ghost use Rattle.tz_zone.specs.Table.{Zone};
 ghost use Rattle.tz_zone.specs.TzFile as Spec;
 ghost use Rattle.tz_zone.specs.TzFileFault.{HeaderFails, UnitFails, FrameFails, TypeFails};
-ghost use Rattle.tz_zone.specs.TzFileFault.{SomeTypeFails, IndicatorsFail, ContentFails};
+ghost use Rattle.tz_zone.specs.TzFileFault.{FirstTypeFails, IndicatorsFail, ContentFails};
 ghost use Rattle.tz_zone.specs.TzFileFault.{FooterFails, ExtraRuleFails, IsReadFault};
 ghost use Rattle.tz_zone.specs.TzParts.{width_of, unit_view, counts_view, block_view, HasSizes};
 ghost use Rattle.tz_zone.specs.TzParts.{IsSized, HasTables};
@@ -548,7 +548,7 @@ fn read_types<A: Allocator + Copy>(
     ensures ok { OnOk result ((i : ℕ) → i < unit.now.counts.local_type
         → Spec.IsTypeRecord (block_view unit.now.block) i) }
     ensures err { IfErr result (λ e. (e ≡ TzError.Memory alloc_error)
-        ⊎ SomeTypeFails (block_view unit.now.block) unit.now.counts.local_type e) }
+        ⊎ FirstTypeFails (block_view unit.now.block) unit.now.counts.local_type e) }
 {
     let mut local_time_types = Vec::with_capacity(alloc, unit.counts.local_type as usize)?;
     for i in 0..unit.counts.local_type {

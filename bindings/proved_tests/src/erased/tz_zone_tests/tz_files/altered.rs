@@ -174,10 +174,14 @@ fn fault_with_two(
     Ok(fault_of(alloc, &other))
 }
 
-/// A header that is cut short and has another magic number.
-fn is_cut_and_altered(alloc: Global) -> Result<Option<Fault>, AllocError> {
-    let mut bytes = with_byte(alloc, UTC_V1, 2, b'j')?;
-    bytes.truncate(20);
+/// How a header is refused that is altered and cut short.
+fn fault_with_cut(
+    alloc: Global,
+    altered: (usize, u8),
+    len: usize,
+) -> Result<Option<Fault>, AllocError> {
+    let mut bytes = with_byte(alloc, UTC_V1, altered.0, altered.1)?;
+    bytes.truncate(len);
     Ok(fault_of(alloc, &bytes))
 }
 
@@ -186,9 +190,13 @@ fn is_cut_and_altered(alloc: Global) -> Result<Option<Fault>, AllocError> {
 fn the_first_fault_that_is_met_is_named() -> Result<(), Fail> {
     let rt = kit::HostRuntime;
 
-    let found = is_cut_and_altered(rt.alloc())?;
-    let is_no_file = Some(Fault::File(InvalidMagicNumber));
-    expect_eq(&rt, &found, &is_no_file);
+    let found = fault_with_cut(rt.alloc(), (2, b'j'), 20)?;
+    expect_eq(&rt, &found, &Some(Fault::File(InvalidMagicNumber)));
+    let found = fault_with_cut(rt.alloc(), (4, b'5'), 5)?;
+    expect_eq(&rt, &found, &Some(Fault::File(UnsupportedTzFileVersion)));
+    // No types, and more transitions than there are bytes.
+    let found = fault_with_two(rt.alloc(), UTC_V1, (39, 0), (32, 255))?;
+    expect_eq(&rt, &found, &Some(Fault::File(InvalidHeader)));
 
     let has_no_flag = Some(Fault::File(InvalidDstIndicator));
     // A flag of 2, and a name at place 9, where there is none.
@@ -196,6 +204,9 @@ fn the_first_fault_that_is_met_is_named() -> Result<(), Fail> {
     expect_eq(&rt, &found, &has_no_flag);
     // A flag of 2, and a time of UT that goes with no standard time.
     let found = fault_with_two(rt.alloc(), &utc_v1_leap(rt.alloc())?, (48, 2), (271, 1))?;
+    expect_eq(&rt, &found, &has_no_flag);
+    // A flag of 2 in the second block, and a footer without its last line feed.
+    let found = fault_with_two(rt.alloc(), JERUSALEM_V3, (111, 2), (146, b' '))?;
     expect_eq(&rt, &found, &has_no_flag);
     Ok(())
 }

@@ -1,6 +1,6 @@
 -- What the tables and the rule make is the zone of the file, and what they fail to make is a fault of it.
 use Rattle.tz_zone.proofs.Common.{◌≡◌, refl, inr, inl, ◌∙◌, subst, ap, Zone, own_zone_of, zone_with, IfErr-weaker, IsReadFault, Part, err_from_is_err_and, option_copied, part_of, ContentFails, HoldsLeapSeconds, IsContent, IsFirstZoneFault, zone_of_part, unit_view}
-use Rattle.tz_zone.proofs.TzFileLaws.{zone_of_tables, holds_from_tables, tables_from_holds, rule_of_file, made_is_file}
+use Rattle.tz_zone.proofs.TzFileLaws.{zone_of_tables, holds_from_tables, tables_from_holds, rule_of_file, rule_fault_of_file, made_is_file}
 use Rattle.tz_zone.proofs.parse.tz_file.parse_tz_file.Goals as goal
 
 pub returns-in_err-tables-clause-err : goal.returns-in_err-tables-clause-err
@@ -14,6 +14,21 @@ returns-in_err-tables-clause-err g c =
             c.in_err-tables.field-0.0) c.in_ok-frame.ensures.unit fails,
       )))
     ])
+
+pub returns-in_err-extra_rule-clause-err : goal.returns-in_err-extra_rule-clause-err
+returns-in_err-extra_rule-clause-err g c =
+    let frame = c.in_ok-frame.frame in
+    let unit = unit_view frame.unit in
+    let same : unit ≡ part_of c.args.bytes.now = c.in_ok-frame.ensures.unit in
+    let p = err_from_is_err_and c.from_residual-in_err-extra_rule.result c.from_residual-in_err-extra_rule.ensures.1 in
+    rw (p.1, p.2) (inr (inr (inr (inl (
+      c.in_ok-frame.ensures.ok,
+      (subst (λ (p : Part). IsContent p.block p.counts.local_type) same
+          c.in_ok-tables.ensures.ok),
+      rule_fault_of_file c.args.bytes.now unit (option_copied frame.footer) c.is_extended.result
+          c.in_err-extra_rule.field-0.0 same c.is_extended.ensures c.in_ok-frame.ensures.footer
+          c.in_err-extra_rule.ensures.err,
+    )))))
 
 pub returns-then-not-may_hold-clause-err : goal.returns-then-not-may_hold-clause-err
 returns-then-not-may_hold-clause-err g c =
