@@ -343,7 +343,7 @@ pub fn change_before_next<'a>(
 }
 
 /// The position at which the instant before the effect of a transition lies, if it has a leap time.
-/// It is not right before the transition where an earlier one takes effect at the same instant.
+/// Where several transitions take effect at that instant, it is the one before the first of them.
 fn position_before_effect(zone: &ZoneData<'_>, index: usize, effect: i64) -> Option<usize>
     requires inside { index < length (zone_of_data zone.now).transitions }
     requires not_least { negsuc 9223372036854775807 <ℤ effect }

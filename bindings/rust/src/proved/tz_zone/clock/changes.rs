@@ -324,7 +324,7 @@ pub const fn change_before_next<'a>(
 }
 
 /// The position at which the instant before the effect of a transition lies, if it has a leap time.
-/// It is not right before the transition where an earlier one takes effect at the same instant.
+/// Where several transitions take effect at that instant, it is the one before the first of them.
 const fn position_before_effect(zone: &ZoneData<'_>, index: usize, effect: i64) -> Option<usize> {
     let transitions = zone.transitions;
     let unix_leap_time = match leap_time(zone.leap_seconds, effect - 1) {
