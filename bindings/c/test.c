@@ -506,6 +506,110 @@ static void test_parsed_texts(void) {
   EXPECT(parsed.ut_offset, the_date_time.local_time_type.ut_offset);
 }
 
+/* What a pattern prints of a date time, with a zero after it. */
+static const char *formatted(const tz_date_time *date_time, const char *pattern) {
+  static char text[129];
+  size_t length = 0;
+  CODE(tz_date_time_format(date_time, pattern, strlen(pattern), text, 128, &length), TZ_OK);
+  text[length] = 0;
+  return text;
+}
+
+static void test_formats(void) {
+  const tz_local_time_type pdt = type_of(-25200, true, "PDT"), cet = type_of(3600, false, "CET");
+  tz_date_time shown = TZ_DATE_TIME_EPOCH;
+  /* Apache's own example, and a date that glibc's strftime prints so. */
+  CODE(tz_date_time_from_timespec_and_local(971211336, 0, &pdt, &shown), TZ_OK);
+  EXPECT(strcmp(formatted(&shown, TZ_COMMON_LOG), "10/Oct/2000:13:55:36 -0700"), 0);
+  CODE(tz_date_time_from_timespec_and_local(973224367, 89000000, &cet, &shown), TZ_OK);
+  EXPECT(strcmp(formatted(&shown, TZ_RFC_2822), "Fri, 03 Nov 2000 05:06:07 +0100"), 0);
+  EXPECT(strcmp(formatted(&shown, TZ_RFC_3339_MILLIS), "2000-11-03T05:06:07.089+01:00"), 0);
+  EXPECT(strcmp(formatted(&shown, "%A, %e %B %Y, %I:%M %p %Z, day %j, week %V, %s%%"),
+                "Friday,  3 November 2000, 05:06 AM CET, day 308, week 44, 973224367%"), 0);
+  EXPECT(strcmp(formatted(&shown, "%Y\xE5\xB9\xB4%m\xE6\x9C\x88%d\xE6\x97\xA5"), "2000\xE5\xB9\xB4" "11\xE6\x9C\x88" "03\xE6\x97\xA5"), 0);
+  EXPECT(strcmp(formatted(&shown, ""), ""), 0);
+  /* RFC 9110's own example. */
+  tz_utc utc = TZ_UTC_EPOCH;
+  CODE(tz_utc_from_timespec(784111777, 0, &utc), TZ_OK);
+  char text[128] = {0};
+  size_t length = 0;
+  CODE(tz_utc_format(&utc, TZ_HTTP_DATE, strlen(TZ_HTTP_DATE), text, sizeof text, &length), TZ_OK);
+  EXPECT(length, 29);
+  EXPECT(memcmp(text, "Sun, 06 Nov 1994 08:49:37 GMT", 29), 0);
+  CODE(tz_utc_format(&utc, "%Z", 2, text, 3, &length), TZ_OK);
+  EXPECT(memcmp(text, "UTC", 3), 0);
+
+  /* A buffer of the very length, and one that is a byte shorter. */
+  CODE(tz_date_time_format(&shown, TZ_COMMON_LOG, strlen(TZ_COMMON_LOG), text, 26, &length), TZ_OK);
+  EXPECT(length, 26);
+  EXPECT(memcmp(text, "03/Nov/2000:05:06:07 +0100GMT", 29), 0);
+  size_t kept = 77;
+  REFUSED(tz_date_time_format(&shown, TZ_COMMON_LOG, strlen(TZ_COMMON_LOG), text, 25, &kept), TZ_BUFFER_LENGTH, text);
+  REFUSED(tz_utc_format(&utc, TZ_HTTP_DATE, strlen(TZ_HTTP_DATE), text, 28, &kept), TZ_BUFFER_LENGTH, text);
+  /* Seven conversions of 18 bytes and two letters print 128 bytes at most. */
+  static const char longest[] = "%s%s%s%s%s%s%s--", longer[] = "%s%s%s%s%s%s%s---";
+  CODE(tz_date_time_format(&shown, longest, strlen(longest), text, sizeof text, &length), TZ_OK);
+  EXPECT(length, 65);
+  memset(text, 0, sizeof text);
+  static const struct { const char *pattern; tz_code code; } rows[] = {
+      {"%d/%Q/%Y", TZ_PATTERN_UNKNOWN_CONVERSION},
+      {"%", TZ_PATTERN_UNKNOWN_CONVERSION},
+      {"%3", TZ_PATTERN_UNKNOWN_CONVERSION},
+      {"%.3", TZ_PATTERN_UNKNOWN_CONVERSION},
+      {"%3d", TZ_PATTERN_UNKNOWN_CONVERSION},
+      {longer, TZ_PATTERN_TOO_LONG},
+      {"%Y\xFF", TZ_PATTERN_UTF8},
+      {"%Q\xE5\xB9", TZ_PATTERN_UTF8},
+  };
+  tz_parsed parsed = {TZ_UTC_EPOCH, 0, false};
+  for (size_t i = 0; i < sizeof rows / sizeof *rows; i++) {
+    const size_t size = strlen(rows[i].pattern);
+    REFUSED(tz_date_time_format(&shown, rows[i].pattern, size, text, sizeof text, &kept), rows[i].code, text);
+    REFUSED(tz_utc_format(&utc, rows[i].pattern, size, text, sizeof text, &kept), rows[i].code, text);
+    REFUSED(tz_pattern_read(rows[i].pattern, size, "", 0, &parsed), rows[i].code, parsed);
+  }
+  /* The pattern ends where its length says, and a NUL is none. */
+  REFUSED(tz_utc_format(&utc, "%Y", 1, text, sizeof text, &kept), TZ_PATTERN_UNKNOWN_CONVERSION, text);
+  REFUSED(tz_utc_format(&utc, "%\0Y", 3, text, sizeof text, &kept), TZ_PATTERN_UNKNOWN_CONVERSION, text);
+  /* This pattern names UTC. */
+  REFUSED(tz_date_time_format(&shown, TZ_HTTP_DATE, strlen(TZ_HTTP_DATE), text, sizeof text, &kept), TZ_PATTERN_OF_UTC, text);
+  EXPECT(kept, 77);
+}
+
+static void test_read_formats(void) {
+  static const struct { const char *pattern, *text; int64_t local; int32_t ut_offset; bool has_offset; } rows[] = {
+      {TZ_COMMON_LOG, "10/Oct/2000:13:55:36 -0700", 971186136, -25200, true},
+      {TZ_RFC_2822, "Fri, 21 Nov 1997 09:55:06 -0600", 880106106, -21600, true},
+      {TZ_RFC_3339_MILLIS, "2000-11-03T05:06:07.089+00:00", 973227967, 0, true},
+      {TZ_HTTP_DATE, "Sun, 06 Nov 1994 08:49:37 GMT", 784111777, 0, false},
+      {"%e %B %Y %I%p", " 3 November 2000 12AM", 973209600, 0, false},
+  };
+  tz_parsed parsed = {TZ_UTC_EPOCH, 0, false};
+  for (size_t i = 0; i < sizeof rows / sizeof *rows; i++) {
+    CODE(tz_pattern_read(rows[i].pattern, strlen(rows[i].pattern), rows[i].text, strlen(rows[i].text), &parsed), TZ_OK);
+    EXPECT(parsed.local.unix_time, rows[i].local);
+    EXPECT(parsed.ut_offset, rows[i].ut_offset);
+    EXPECT(parsed.has_offset, rows[i].has_offset);
+  }
+  static const struct { const char *pattern, *text; tz_code code; } refused[] = {
+      {TZ_COMMON_LOG, "10/oct/2000:13:55:36 -0700", TZ_PATTERN_MISMATCH},
+      {TZ_COMMON_LOG, "10/Oct/2000:13:55:36 -070", TZ_PATTERN_MISMATCH},
+      {TZ_COMMON_LOG, "10/Oct/2000:13:55:36 -07000", TZ_PATTERN_MISMATCH},
+      {TZ_COMMON_LOG, "10/Oct/2000:13:55:36 -0000", TZ_PATTERN_MISMATCH},
+      {TZ_COMMON_LOG, "", TZ_PATTERN_MISMATCH},
+      {TZ_RFC_2822, "Thu, 21 Nov 1997 09:55:06 -0600", TZ_PATTERN_MISMATCH},
+      {"%e %b %Y", "3 Nov 2000", TZ_PATTERN_MISMATCH},
+      {"%H:%M", "05:06", TZ_PATTERN_MISMATCH},
+      {"%F %I", "2000-11-03 05", TZ_PATTERN_NOT_READABLE},
+      {"%s", "0", TZ_PATTERN_NOT_READABLE},
+      {"%F %Z", "2000-11-03 UTC", TZ_PATTERN_NOT_READABLE},
+      {"%G-W%V-%u", "2000-W44-5", TZ_PATTERN_NOT_READABLE},
+  };
+  for (size_t i = 0; i < sizeof refused / sizeof *refused; i++) {
+    REFUSED(tz_pattern_read(refused[i].pattern, strlen(refused[i].pattern), refused[i].text, strlen(refused[i].text), &parsed), refused[i].code, parsed);
+  }
+}
+
 /* Each code that there is, and its text. */
 static const struct { tz_code code; const char *text; } code_texts[] = {
     {TZ_OK, "no error"},
@@ -582,6 +686,12 @@ static const struct { tz_code code; const char *text; } code_texts[] = {
     {TZ_EXPECTED_OFFSET_MINUTE, "expected the minutes of an offset from 00 to 59"},
     {TZ_EXPECTED_OFFSET_SECOND, "expected the seconds of an offset from 00 to 59"},
     {TZ_EXPECTED_END, "expected the end"},
+    {TZ_PATTERN_UTF8, "invalid pattern: invalid UTF-8"},
+    {TZ_PATTERN_UNKNOWN_CONVERSION, "invalid pattern: no conversion begins at a `%`"},
+    {TZ_PATTERN_TOO_LONG, "invalid pattern: it prints more than 128 bytes"},
+    {TZ_PATTERN_OF_UTC, "the pattern prints date times of UTC alone"},
+    {TZ_PATTERN_NOT_READABLE, "the pattern has a conversion that is not read"},
+    {TZ_PATTERN_MISMATCH, "the pattern does not print the text"},
     {TZ_MEMORY, "no memory"},
 };
 
@@ -613,7 +723,7 @@ static void test_error_texts(void) {
     else REFUSED(tz_error_text(code, text, sizeof text, &length), TZ_UNKNOWN_CODE, length);
   }
   EXPECT(row, sizeof code_texts / sizeof *code_texts);
-  EXPECT(row, 75);
+  EXPECT(row, 81);
   REFUSED(tz_error_text(UINT32_MAX, text, sizeof text, &length), TZ_UNKNOWN_CODE, length);
 }
 
@@ -1114,6 +1224,8 @@ int main(int argc, char **argv) {
   test_date_times();
   test_texts();
   test_parsed_texts();
+  test_formats();
+  test_read_formats();
   test_error_texts();
   test_strings();
   test_names();

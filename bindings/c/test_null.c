@@ -166,6 +166,7 @@ static void test_null_parameters(void) {
   REFUSED(tz_setting_read(NULL, 0, &setting), TZ_STRING_EMPTY, setting);
   CODE(tz_name_check(NULL, 0), TZ_INVALID_NAME);
   REFUSED(tz_date_time_read(NULL, 0, &parsed), TZ_EXPECTED_YEAR, parsed);
+  REFUSED(tz_pattern_read(NULL, 0, NULL, 0, &parsed), TZ_PATTERN_MISMATCH, parsed);
   CODE(tz_find_n(&fields, &made.zone, 0, NULL, 0, &count), TZ_OK);
   EXPECT(count, 1);
   CODE(tz_column_offsets(NULL, 0, &made.zone, NULL, 0, NULL, 0), TZ_OK);
@@ -173,6 +174,9 @@ static void test_null_parameters(void) {
   CODE(tz_column_instants(NULL, 0, TZ_REJECT, &made.zone, NULL, 0, NULL, 0), TZ_OK);
   REFUSED(tz_utc_text(&utc, NULL, 0, &length), TZ_BUFFER_LENGTH, length);
   REFUSED(tz_date_time_text(&date_time, NULL, 0, &length), TZ_BUFFER_LENGTH, length);
+  REFUSED(tz_date_time_format(&date_time, "%Y", 2, NULL, 0, &length), TZ_BUFFER_LENGTH, length);
+  CODE(tz_utc_format(&utc, NULL, 0, NULL, 0, &length), TZ_OK);
+  EXPECT(length, 0);
   REFUSED(tz_error_text(TZ_OK, NULL, 0, &length), TZ_BUFFER_LENGTH, length);
   CODE(tz_layout(NULL, 0), TZ_BUFFER_LENGTH);
 }

@@ -152,6 +152,15 @@ enum {
   TZ_EXPECTED_OFFSET_SECOND = 141,
   TZ_EXPECTED_END = 142,
 
+  /* Patterns: why a text is none, or is not for this date time */
+  TZ_PATTERN_UTF8 = 144,
+  TZ_PATTERN_UNKNOWN_CONVERSION = 145,
+  TZ_PATTERN_TOO_LONG = 146,            /* it prints more than 128 bytes for some date time */
+  TZ_PATTERN_OF_UTC = 147,              /* TZ_HTTP_DATE for a `tz_date_time` */
+  /* and why a text is not read by one */
+  TZ_PATTERN_NOT_READABLE = 148,
+  TZ_PATTERN_MISMATCH = 149,
+
   /* Out of memory */
   TZ_MEMORY = 255
 };
@@ -520,6 +529,44 @@ tz_code tz_date_time_text(const tz_date_time *date_time, char *text, size_t text
 /* What a text of a date time says, in the form of RFC 3339 (section 5.6) with a fraction of nine digits at most, years and offsets as these calls write
    them, and with or without an offset: `2000-02-29T23:59:60.5+01:00`. The text is the whole, without white space at its ends. TZ_EXPECTED_... */
 tz_code tz_date_time_read(const char *text, size_t text_length, tz_parsed *out);
+
+/* A pattern is a text in UTF-8 whose conversions print a part of a date time, and whose other bytes stand for themselves. Names are English, as those of
+   strftime in the locale "C".
+
+   %Y %y        the year, of four digits at least and with `-` before one below 0, and its last two digits, which grow in years below 0 too
+   %m %B %b %h  the month, 01 to 12, its name, and the first three letters of that
+   %d %e %j     the day of the month, 01 to 31, and with a space in the place of a first zero; the day of the year, 001 to 366
+   %H %k        the hour, 00 to 23, and with a space in the place of a first zero
+   %I %p        the hour of a clock of twelve hours, 01 to 12, and AM or PM
+   %M %S        the minute, and the second, 00 to 60
+   %3f %6f %9f  the fraction of the second, cut to so many digits; after a point %.3f %.6f %.9f
+   %A %a        the name of the week day, and its first three letters
+   %u %w        its number, 1 to 7 from Monday, and 0 to 6 from Sunday
+   %V %G %g     the week of ISO 8601, 01 to 53, its year, and the last two digits of that
+   %U %W        the week of the year, 00 to 53, of weeks from Sunday, and from Monday
+   %s           the Unix time
+   %z %:z       the offset from UTC as +hhmm and +hh:mm, its seconds dropped
+   %Z           the name of the local time type, or the offset as %:z if there is none; of a `tz_utc` UTC
+   %F %D %T %R  %Y-%m-%d, %m/%d/%y, %H:%M:%S and %H:%M
+   %n %t %%     a line feed, a tab and %
+
+   Unlike strftime, a call refuses everything else after a %, writes no zero at the end, and tells a text of no bytes from a buffer that is too short. */
+#define TZ_RFC_2822 "%a, %d %b %Y %H:%M:%S %z"
+#define TZ_RFC_3339_MILLIS "%Y-%m-%dT%H:%M:%S%.3f%:z"
+#define TZ_COMMON_LOG "%d/%b/%Y:%H:%M:%S %z"
+#define TZ_HTTP_DATE "%a, %d %b %Y %H:%M:%S GMT"
+
+/* The date time as a pattern prints it, and its length: at most 128 bytes, and no zero follows them. TZ_HTTP_DATE names UTC, so for a `tz_date_time` it is
+   refused: `tz_date_time_to_utc` comes before. TZ_PATTERN_UTF8, TZ_PATTERN_UNKNOWN_CONVERSION, TZ_PATTERN_TOO_LONG or TZ_PATTERN_OF_UTC, or else
+   TZ_BUFFER_LENGTH. */
+tz_code tz_date_time_format(const tz_date_time *date_time, const char *pattern, size_t pattern_length, char *text, size_t text_length, size_t *length);
+tz_code tz_utc_format(const tz_utc *utc, const char *pattern, size_t pattern_length, char *text, size_t text_length, size_t *length);
+
+/* The local time and the offset of a text that the pattern prints: of years from 0 to 9999, and offsets of whole minutes below 100 hours. What the pattern
+   does not show is zero, so it shows the month and the day of the month, or no text is read. What does not determine the date time, as the week day, has to
+   agree with it. TZ_PATTERN_UTF8, TZ_PATTERN_UNKNOWN_CONVERSION, TZ_PATTERN_TOO_LONG; TZ_PATTERN_NOT_READABLE if the pattern has %G, %s or %Z, or %I or %p
+   without the other or the hour, %y or %D without the year, or %g or %j without the date; or else TZ_PATTERN_MISMATCH. */
+tz_code tz_pattern_read(const char *pattern, size_t pattern_length, const char *text, size_t text_length, tz_parsed *out);
 
 /* Writes what a code says, and its length: at most 128 bytes, and no zero follows them. TZ_UNKNOWN_CODE, TZ_BUFFER_LENGTH. */
 tz_code tz_error_text(tz_code code, char *text, size_t text_length, size_t *length);

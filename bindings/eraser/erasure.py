@@ -93,7 +93,7 @@ PACKAGES = (
         by_hand={"": "bindings/c/src/proved/mod.rs"},
         others={
             name: f"tz::proved::{name}"
-            for name in ("tz_base", "tz_rule", "tz_zone", "tz", "tz_civil")
+            for name in ("tz_base", "tz_rule", "tz_zone", "tz", "tz_civil", "tz_format")
         },
         std_paths=tuple((old, new.replace("crate::", "tz::")) for old, new in STD),
         exports="bindings/c/src/exports.rs",

@@ -78,6 +78,12 @@ export type CodeName =
   | 'EXPECTED_OFFSET_MINUTE'
   | 'EXPECTED_OFFSET_SECOND'
   | 'EXPECTED_END'
+  | 'PATTERN_UTF8'
+  | 'PATTERN_UNKNOWN_CONVERSION'
+  | 'PATTERN_TOO_LONG'
+  | 'PATTERN_OF_UTC'
+  | 'PATTERN_NOT_READABLE'
+  | 'PATTERN_MISMATCH'
   | 'MEMORY';
 /** What a function returns: one of `codes`. */
 export type Code = number;
@@ -331,6 +337,30 @@ export interface Functions {
    * TZ_EXPECTED_...
    */
   tz_date_time_read(text: Pointer<'char'>, text_length: number, out: Pointer<'tz_parsed'>): Code;
+  /**
+   * The date time as a pattern prints it, and its length: at most 128 bytes, and no zero follows
+   * them. TZ_HTTP_DATE names UTC, so for a `tz_date_time` it is refused: `tz_date_time_to_utc`
+   * comes before. TZ_PATTERN_UTF8, TZ_PATTERN_UNKNOWN_CONVERSION, TZ_PATTERN_TOO_LONG or
+   * TZ_PATTERN_OF_UTC, or else TZ_BUFFER_LENGTH.
+   */
+  tz_date_time_format(date_time: Pointer<'tz_date_time'>, pattern: Pointer<'char'>, pattern_length: number, text: Pointer<'char'>, text_length: number, length: Pointer<'size_t'>): Code;
+  /**
+   * The date time as a pattern prints it, and its length: at most 128 bytes, and no zero follows
+   * them. TZ_HTTP_DATE names UTC, so for a `tz_date_time` it is refused: `tz_date_time_to_utc`
+   * comes before. TZ_PATTERN_UTF8, TZ_PATTERN_UNKNOWN_CONVERSION, TZ_PATTERN_TOO_LONG or
+   * TZ_PATTERN_OF_UTC, or else TZ_BUFFER_LENGTH.
+   */
+  tz_utc_format(utc: Pointer<'tz_utc'>, pattern: Pointer<'char'>, pattern_length: number, text: Pointer<'char'>, text_length: number, length: Pointer<'size_t'>): Code;
+  /**
+   * The local time and the offset of a text that the pattern prints: of years from 0 to 9999, and
+   * offsets of whole minutes below 100 hours. What the pattern does not show is zero, so it shows
+   * the month and the day of the month, or no text is read. What does not determine the date time,
+   * as the week day, has to agree with it. TZ_PATTERN_UTF8, TZ_PATTERN_UNKNOWN_CONVERSION,
+   * TZ_PATTERN_TOO_LONG; TZ_PATTERN_NOT_READABLE if the pattern has %G, %s or %Z, or %I or %p
+   * without the other or the hour, %y or %D without the year, or %g or %j without the date; or else
+   * TZ_PATTERN_MISMATCH.
+   */
+  tz_pattern_read(pattern: Pointer<'char'>, pattern_length: number, text: Pointer<'char'>, text_length: number, out: Pointer<'tz_parsed'>): Code;
   /**
    * Writes what a code says, and its length: at most 128 bytes, and no zero follows them.
    * TZ_UNKNOWN_CODE, TZ_BUFFER_LENGTH.

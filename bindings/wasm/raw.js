@@ -80,6 +80,12 @@ export const codes = Object.freeze({
   EXPECTED_OFFSET_MINUTE: 140,
   EXPECTED_OFFSET_SECOND: 141,
   EXPECTED_END: 142,
+  PATTERN_UTF8: 144,
+  PATTERN_UNKNOWN_CONVERSION: 145,
+  PATTERN_TOO_LONG: 146,
+  PATTERN_OF_UTC: 147,
+  PATTERN_NOT_READABLE: 148,
+  PATTERN_MISMATCH: 149,
   MEMORY: 255,
 });
 
@@ -177,6 +183,9 @@ const FUNCTIONS = {
   tz_utc_text: 4,
   tz_date_time_text: 4,
   tz_date_time_read: 3,
+  tz_date_time_format: 6,
+  tz_utc_format: 6,
+  tz_pattern_read: 5,
   tz_error_text: 4,
   tz_layout: 2,
 };

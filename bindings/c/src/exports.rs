@@ -12,7 +12,7 @@ use crate::proved::tz_c::rule_data::RuleData;
 use crate::proved::tz_c::texts::SettingData;
 use crate::proved::tz_c::zone_data::ZoneData;
 use crate::proved::tz_c::zones::{ChangeData, ConflictData, OffsetsData, PartsData, SegmentData};
-use crate::proved::tz_c::{codes, columns, date_times, dates, searches, texts, zones};
+use crate::proved::tz_c::{codes, columns, date_times, dates, formats, searches, texts, zones};
 use tz::proved::tz::inner::{DateTimeData, Fields, FoundData, UtcData};
 use tz::proved::tz::{DateTime, UtcDateTime};
 use tz::proved::tz_civil::WeekDate;
@@ -533,6 +533,91 @@ pub unsafe extern "C" fn tz_date_from_week_date(
     // SAFETY: tz.h asks of a caller what these require.
     let (week_date, mut out) = unsafe { (one(week_date), Out::new(out)) };
     let answer = dates::tz_date_from_week_date(week_date, &mut out.value);
+    // SAFETY: tz.h asks of a caller what these require.
+    unsafe { out.write(answer) };
+    answer
+}
+
+/// The date time as the pattern prints it, but for the pattern of HTTP's dates, which names UTC.
+///
+/// # Safety
+///
+/// What tz.h asks of a caller.
+#[unsafe(no_mangle)]
+pub unsafe extern "C" fn tz_date_time_format(
+    date_time: *const DateTime,
+    pattern: *const u8,
+    pattern_length: usize,
+    text: *mut u8,
+    text_length: usize,
+    len: *mut usize,
+) -> u32 {
+    // SAFETY: tz.h asks of a caller what these require.
+    let (date_time, pattern, text, mut len) = unsafe {
+        (
+            one(date_time),
+            list(pattern, pattern_length),
+            list_mut(text, text_length),
+            Out::new(len),
+        )
+    };
+    let answer = formats::tz_date_time_format(date_time, pattern, text, &mut len.value);
+    // SAFETY: tz.h asks of a caller what these require.
+    unsafe { len.write(answer) };
+    answer
+}
+
+/// The date time of UTC as the pattern prints it.
+///
+/// # Safety
+///
+/// What tz.h asks of a caller.
+#[unsafe(no_mangle)]
+pub unsafe extern "C" fn tz_utc_format(
+    utc: *const UtcDateTime,
+    pattern: *const u8,
+    pattern_length: usize,
+    text: *mut u8,
+    text_length: usize,
+    len: *mut usize,
+) -> u32 {
+    // SAFETY: tz.h asks of a caller what these require.
+    let (utc, pattern, text, mut len) = unsafe {
+        (
+            one(utc),
+            list(pattern, pattern_length),
+            list_mut(text, text_length),
+            Out::new(len),
+        )
+    };
+    let answer = formats::tz_utc_format(utc, pattern, text, &mut len.value);
+    // SAFETY: tz.h asks of a caller what these require.
+    unsafe { len.write(answer) };
+    answer
+}
+
+/// The local time and the offset of a text that the pattern prints, as `Pattern::read` reads it.
+///
+/// # Safety
+///
+/// What tz.h asks of a caller.
+#[unsafe(no_mangle)]
+pub unsafe extern "C" fn tz_pattern_read(
+    pattern: *const u8,
+    pattern_length: usize,
+    text: *const u8,
+    text_length: usize,
+    out: *mut ParsedData,
+) -> u32 {
+    // SAFETY: tz.h asks of a caller what these require.
+    let (pattern, text, mut out) = unsafe {
+        (
+            list(pattern, pattern_length),
+            list(text, text_length),
+            Out::new(out),
+        )
+    };
+    let answer = formats::tz_pattern_read(pattern, text, &mut out.value);
     // SAFETY: tz.h asks of a caller what these require.
     unsafe { out.write(answer) };
     answer

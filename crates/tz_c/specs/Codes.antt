@@ -135,6 +135,24 @@ unknown_code = 10
 abbrev pub invalid_name : ℕ
 invalid_name = 11
 
+abbrev pub pattern_utf8 : ℕ
+pattern_utf8 = 144
+
+abbrev pub pattern_unknown_conversion : ℕ
+pattern_unknown_conversion = 145
+
+abbrev pub pattern_too_long : ℕ
+pattern_too_long = 146
+
+abbrev pub pattern_of_utc : ℕ
+pattern_of_utc = 147
+
+abbrev pub pattern_not_readable : ℕ
+pattern_not_readable = 148
+
+abbrev pub pattern_mismatch : ℕ
+pattern_mismatch = 149
+
 -- 0 says that something holds of what was written; any other code is that of an error that is due
 abbrev pub IsAnswerBy : {E : Type 0} → (E → ℕ) → ℕ → Type 0 → (E → Type 0) → Type 0
 IsAnswerBy {E} code_by code done due = ((code ≡ 0) × done) ⊎ ((e : E) × (code ≡ code_by e) × due e)

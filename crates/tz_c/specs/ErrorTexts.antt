@@ -218,6 +218,12 @@ texts =
     (140, codes "expected the minutes of an offset from 00 to 59") ∷
     (141, codes "expected the seconds of an offset from 00 to 59") ∷
     (142, codes "expected the end") ∷
+    (144, codes "invalid pattern: invalid UTF-8") ∷
+    (145, codes "invalid pattern: no conversion begins at a `%`") ∷
+    (146, codes "invalid pattern: it prints more than 128 bytes") ∷
+    (147, codes "the pattern prints date times of UTC alone") ∷
+    (148, codes "the pattern has a conversion that is not read") ∷
+    (149, codes "the pattern does not print the text") ∷
     (255, codes "no memory") ∷
     []
 

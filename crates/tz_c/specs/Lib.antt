@@ -5,6 +5,7 @@ pub mod DateTimeTexts
 pub mod DateTimes
 pub mod ErrorTexts
 pub mod Files
+pub mod Formats
 pub mod Layout
 pub mod Indexes
 pub mod RuleData

@@ -253,13 +253,13 @@ pub struct ParsedData {
 impl ParsedData {
     ghost use Rattle.tz_c.specs.DateTimeTexts.{IsParsedData, parsed_of};
 
-    /// The data of what is read.
-    fn of(parsed: &ParsedDateTime) -> Self
-        ensures value { parsed_of result ≡ parsed.now }
+    /// The data of a local time, and of an offset if there is one.
+    pub(crate) fn new(local: &UtcDateTime, ut_offset: Option<i32>) -> Self
+        ensures value { parsed_of result ≡ record { local = local.now; ut_offset = ut_offset } }
         ensures sound { IsParsedData result }
     {
-        let local = UtcData::of(&parsed.local());
-        match parsed.ut_offset() {
+        let local = UtcData::of(local);
+        match ut_offset {
             Some(ut_offset) => ParsedData {
                 local,
                 ut_offset,
@@ -271,6 +271,14 @@ impl ParsedData {
                 has_offset: false,
             },
         }
+    }
+
+    /// The data of what is read.
+    fn of(parsed: &ParsedDateTime) -> Self
+        ensures value { parsed_of result ≡ parsed.now }
+        ensures sound { IsParsedData result }
+    {
+        ParsedData::new(&parsed.local(), parsed.ut_offset())
     }
 }
 

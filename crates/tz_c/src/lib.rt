@@ -6,6 +6,7 @@ mod codes;
 mod columns;
 mod date_times;
 mod dates;
+mod formats;
 pub mod laws;
 mod rule_data;
 mod searches;

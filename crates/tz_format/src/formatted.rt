@@ -1,7 +1,8 @@
 //! Date times as a pattern prints them.
 
-ghost use Rattle.std.specs.Prelude.{◌≡◌};
+ghost use Rattle.std.specs.Prelude.{◌≡◌, [], IsUtf8};
 ghost use Rattle.tz_format.specs.DateTimes.{shown_date_time, shown_utc};
+ghost use Rattle.tz_format.specs.Patterns.{text_of};
 ghost use Rattle.tz_format.specs.Shown.{IsShown, shown_of};
 
 use crate::line::Line;
@@ -53,6 +54,24 @@ fn moment_of_utc(date_time: &UtcDateTime) -> Moment<'static>
         designation: "UTC",
         unix_time: data.unix_time,
     }
+}
+
+/// Appends what a pattern prints of a date time.
+pub fn push_date_time(line: &mut Line, pattern: &Pattern<'_>, date_time: &DateTime)
+    requires { line.old ≡ [] }
+    ensures text { line.new ≡ text_of pattern.now.text.now (shown_date_time date_time.now) }
+    ensures utf8 { IsUtf8 line.new }
+{
+    push_pattern(line, pattern.as_str(), &moment_of(date_time));
+}
+
+/// Appends what a pattern prints of a date time of UTC.
+pub fn push_utc_date_time(line: &mut Line, pattern: &Pattern<'_>, date_time: &UtcDateTime)
+    requires { line.old ≡ [] }
+    ensures text { line.new ≡ text_of pattern.now.text.now (shown_utc date_time.now) }
+    ensures utf8 { IsUtf8 line.new }
+{
+    push_pattern(line, pattern.as_str(), &moment_of_utc(date_time));
 }
 
 impl<'a> Pattern<'a> {

@@ -4,6 +4,7 @@
 pub mod constants;
 mod conversion;
 mod formatted;
+pub mod inner;
 pub mod laws;
 mod lenient;
 mod line;

@@ -10,7 +10,7 @@ use std::str;
 /// Bytes of a line, at most 128. They are text once all of them stand there: those of one
 /// character come one by one.
 #[derive(Drop)]
-pub(crate) struct Line {
+pub struct Line {
     bytes: [u8; 128],
     len: usize,
 }
@@ -35,7 +35,7 @@ fn pair_of(number: u8) -> [u8; 2]
 
 impl Line {
     /// An empty line.
-    pub(crate) fn new() -> Self
+    pub fn new() -> Self
         ensures { result ≡ [] }
     {
         Line {
@@ -45,7 +45,7 @@ impl Line {
     }
 
     /// The bytes.
-    pub(crate) fn as_bytes(&self) -> &[u8]
+    pub fn as_bytes(&self) -> &[u8]
         ensures text { result.now ≡ self.now }
         ensures len { length result.now ≤ 128 }
     {

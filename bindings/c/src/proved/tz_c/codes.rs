@@ -56,6 +56,24 @@ pub(crate) const EMPTY_STRING: u32 = 92;
 /// The code of nanoseconds that are a second or more.
 pub(crate) const INVALID_NANOSECONDS: u32 = 21;
 
+/// The code of a pattern that is no UTF-8.
+pub(crate) const PATTERN_UTF8: u32 = 144;
+
+/// The code of a `%` that spells no conversion.
+pub(crate) const PATTERN_UNKNOWN_CONVERSION: u32 = 145;
+
+/// The code of a pattern whose texts are too long.
+pub(crate) const PATTERN_TOO_LONG: u32 = 146;
+
+/// The code of a pattern that prints date times of UTC alone.
+pub(crate) const PATTERN_OF_UTC: u32 = 147;
+
+/// The code of a pattern that is not read.
+pub(crate) const PATTERN_NOT_READABLE: u32 = 148;
+
+/// The code of a text that a pattern does not print.
+pub(crate) const PATTERN_MISMATCH: u32 = 149;
+
 /// The code of fields that are no date time.
 pub(crate) fn fields_code(error: DateTimeError) -> u32 {
     match error {
@@ -268,6 +286,12 @@ fn text_of(code: u32) -> Option<&'static str> {
         140 => Some("expected the minutes of an offset from 00 to 59"),
         141 => Some("expected the seconds of an offset from 00 to 59"),
         142 => Some("expected the end"),
+        144 => Some("invalid pattern: invalid UTF-8"),
+        145 => Some("invalid pattern: no conversion begins at a `%`"),
+        146 => Some("invalid pattern: it prints more than 128 bytes"),
+        147 => Some("the pattern prints date times of UTC alone"),
+        148 => Some("the pattern has a conversion that is not read"),
+        149 => Some("the pattern does not print the text"),
         255 => Some("no memory"),
         _ => None,
     }

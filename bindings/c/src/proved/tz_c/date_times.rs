@@ -185,10 +185,10 @@ pub struct ParsedData {
 }
 
 impl ParsedData {
-    /// The data of what is read.
-    fn of(parsed: &ParsedDateTime) -> Self {
-        let local = UtcData::of(&parsed.local());
-        match parsed.ut_offset() {
+    /// The data of a local time, and of an offset if there is one.
+    pub(crate) fn new(local: &UtcDateTime, ut_offset: Option<i32>) -> Self {
+        let local = UtcData::of(local);
+        match ut_offset {
             Some(ut_offset) => ParsedData {
                 local,
                 ut_offset,
@@ -200,6 +200,11 @@ impl ParsedData {
                 has_offset: false,
             },
         }
+    }
+
+    /// The data of what is read.
+    fn of(parsed: &ParsedDateTime) -> Self {
+        ParsedData::new(&parsed.local(), parsed.ut_offset())
     }
 }
 

@@ -6,6 +6,7 @@ pub(crate) mod codes;
 pub(crate) mod columns;
 pub(crate) mod date_times;
 pub(crate) mod dates;
+pub(crate) mod formats;
 
 pub(crate) mod rule_data;
 pub(crate) mod searches;

@@ -46,6 +46,18 @@ fn moment_of_utc(date_time: &UtcDateTime) -> Moment<'static> {
     }
 }
 
+/// Appends what a pattern prints of a date time.
+#[cfg(feature = "inner")]
+pub fn push_date_time(line: &mut Line, pattern: &Pattern<'_>, date_time: &DateTime) {
+    push_pattern(line, pattern.as_str(), &moment_of(date_time));
+}
+
+/// Appends what a pattern prints of a date time of UTC.
+#[cfg(feature = "inner")]
+pub fn push_utc_date_time(line: &mut Line, pattern: &Pattern<'_>, date_time: &UtcDateTime) {
+    push_pattern(line, pattern.as_str(), &moment_of_utc(date_time));
+}
+
 impl<'a> Pattern<'a> {
     /// The date time as the pattern prints it.
     #[must_use]

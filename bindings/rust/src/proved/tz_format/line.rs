@@ -3,7 +3,7 @@
 
 /// Bytes of a line, at most 128. They are text once all of them stand there: those of one
 /// character come one by one.
-pub(crate) struct Line {
+pub struct Line {
     bytes: [u8; 128],
     len: usize,
 }
@@ -15,7 +15,8 @@ fn pair_of(number: u8) -> [u8; 2] {
 
 impl Line {
     /// An empty line.
-    pub(crate) fn new() -> Self {
+    #[must_use]
+    pub fn new() -> Self {
         Line {
             bytes: [0; 128],
             len: 0,
@@ -23,7 +24,8 @@ impl Line {
     }
 
     /// The bytes.
-    pub(crate) fn as_bytes(&self) -> &[u8] {
+    #[must_use]
+    pub fn as_bytes(&self) -> &[u8] {
         &self.bytes[..self.len]
     }
 

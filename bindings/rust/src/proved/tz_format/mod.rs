@@ -3,6 +3,7 @@
 
 mod conversion;
 mod formatted;
+pub mod inner;
 
 mod lenient;
 mod line;
