@@ -145,10 +145,6 @@ EXACT = {
     "crates/tz/src/datetime/found.rt": (
         ("    pub(super) found: Vec<", "    pub(crate) found: Vec<"),
     ),
-    # These docs stand apart from their function.
-    "crates/tz_format/src/print.rt": (
-        ("/// Appends what a pattern prints.\n\n", "/// Appends what a pattern prints.\n"),
-    ),
     # The public type is by hand.
     "crates/tz_zone/src/timezone/zone_names.rt": (
         ("(super::TimeZone::named)", "(crate::timezone::TimeZone::named)"),

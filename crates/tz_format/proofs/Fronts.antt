@@ -1,5 +1,5 @@
 -- What is read of the texts of conversions.
-use Rattle.std.proofs.Common.{arith, refl, ◌≡◌, ◌∙◌, ap, sym, [], ℕ, zero, suc, ◌∷◌, ◌<◌, ◌≤◌, length, length-append, ◌+◌, ◌-◌, ◌*◌, ◌++◌, ◌/◌, ◌%◌, List, drop, true, false, ℤ, pos, negsuc}
+use Rattle.std.proofs.Common.{arith, refl, ◌≡◌, ◌∙◌, ap, sym, [], ℕ, zero, suc, ◌∷◌, ◌<◌, ◌≤◌, length, ◌+◌, ◌*◌, ◌++◌, ◌/◌, ◌%◌, List, drop, true, false, ℤ, pos, negsuc}
 use Rattle.std.specs.Prelude.{unsigned_abs, neg_ℤ, slice_index, ◌==◌, if◌then◌else◌}
 use Rattle.std.proofs.lemmas.Bool.{cases_lt, lt-ltb, le-ltb}
 use Rattle.std.proofs.Common.{inl, inr}
@@ -10,7 +10,7 @@ use Rattle.tz_format.specs.Names.{month_name, week_day_name, short}
 use Rattle.tz_format.specs.Shown.{Shown}
 use Rattle.tz_format.specs.Texts.{spaced_digits, conversion_text, year_text, year_of_century, four_digits_or_more, half_day, half_day_hour, hours_and_minutes, offset_digits}
 use Rattle.tz_format.specs.Weeks.{week_day}
-use Rattle.tz_format.specs.Readings.{IsPlain, digit, pair, triple, month_of, month_read, week_day_width, offset_read, value_read, value, parts_of, is_read, read_width}
+use Rattle.tz_format.specs.Readings.{IsPlain, pair, triple, month_of, month_read, week_day_width, offset_read, value_read, value, parts_of, is_read, read_width}
 use Rattle.tz_format.specs.declared.conversion.Conversion.{Conversion}
 use Rattle.tz_format.specs.declared.conversion.Conversion.TheVariants.{Year, YearOfCentury, WeekYear, WeekYearOfCentury, Month, MonthName, ShortMonthName, MonthDay, SpacedMonthDay, YearDay, Hour, SpacedHour, HalfDayHour, HalfDay, Minute, Second, WeekDayName, ShortWeekDayName, WeekDayFromMonday, WeekDayFromSunday, Week as WeekNumber, WeekFromSunday, WeekFromMonday, UnixTime, Offset, OffsetWithColon, Designation, Date, DateWithSlashes, Time, TimeToMinutes, Milliseconds, Microseconds, Nanoseconds, PointMilliseconds, PointMicroseconds, PointNanoseconds, LineFeed, Tab, Percent}
 use Rattle.tz_format.proofs.ConversionBytes.{week_day_below}

@@ -1,6 +1,6 @@
 -- How far a text is read.
-use Rattle.std.proofs.Common.{arith, refl, ◌≡◌, ◌≢◌, ◌∙◌, ap, sym, ℕ, zero, suc, [], ◌∷◌, ◌<◌, ◌≤◌, length, ◌+◌, ◌++◌, List, get_or, drop, Option, Some, None, true, false, Bool, ℤ, pos, inl, inr, lit<}
-use Rattle.std.specs.Prelude.{IfNone, option_map, ◌||◌, ◌&&◌, ◌==◌, ◌⊎◌, if◌then◌else◌, nat_lt, set, replicate}
+use Rattle.std.proofs.Common.{arith, refl, ◌≡◌, ◌≢◌, ◌∙◌, ap, sym, ℕ, zero, suc, ◌∷◌, ◌<◌, ◌≤◌, length, ◌+◌, ◌++◌, List, get_or, drop, Option, Some, None, true, false, Bool, ℤ, pos, inl, inr}
+use Rattle.std.specs.Prelude.{IfNone, option_map, ◌||◌, ◌&&◌, replicate}
 use Rattle.std.proofs.Math.Bool.{or-true}
 use Rattle.tz_format.specs.Conversions.{conversion_at}
 use Rattle.tz_format.specs.Patterns.{Converted, items_of, first_unknown, texts}
@@ -170,7 +170,7 @@ shown_at_end pattern text position left values shown h past k =
 
 pub all_read : (pattern text : List ℕ) (position : ℕ) (left : List ℕ) (values : List ℤ) (shown : List Bool)
     → IsReadUpTo pattern text position left values shown → length pattern ≤ position
-    → is_whole (λ part. get_or shown part false) ≡ true → IsGuess pattern text values shown
+    → is_whole (λ part. get_or shown part false) ≡ true → IsGuess pattern text values (get_or shown 10 false)
 all_read pattern text position left values shown h past whole =
     let none = no_item pattern position past in
     let shown_are = shown_at_end pattern text position left values shown h past in

@@ -1,6 +1,6 @@
 -- What a text is read as: the date time that a pattern prints as it, of those with years from 0 to
 -- 9999 and offsets of whole minutes below 100 hours.
-use Rattle.std.specs.Prelude.{◌≡◌, ℕ, ◌+◌, ◌-◌, ◌*◌, ◌/◌, ◌%◌, ◌<◌, ◌==◌, ◌||◌, ◌&&◌, if◌then◌else◌, Bool, true, false, ℤ, pos, neg_ℤ, slice_index, get_or, set, List, [], ◌∷◌, length, unsigned_abs, Option, Some, None}
+use Rattle.std.specs.Prelude.{◌≡◌, ℕ, ◌+◌, ◌*◌, ◌/◌, ◌%◌, ◌<◌, ◌==◌, ◌||◌, ◌&&◌, if◌then◌else◌, Bool, true, false, ℤ, pos, neg_ℤ, slice_index, get_or, set, List, [], ◌∷◌, length, unsigned_abs, Option, Some, None}
 use Rattle.tz_base.specs.declared.fields.Fields.{Fields}
 use Rattle.tz_format.specs.Names.{month_name}
 use Rattle.tz_format.specs.Patterns.{Item, Converted, items_of, text_of}
@@ -236,14 +236,14 @@ IsReadFault pattern text (Mismatch position) =
     IsReadablePattern pattern × ((s : Shown) → IsReading pattern text s → ⊥)
 
 -- what is read in one pass: the parts of each date time that the text can be of, 0 for those that
--- are not shown, and which are shown
-pub record IsGuess (pattern text : List ℕ) (values : List ℤ) (shown : List Bool) : Type 0 where
+-- are not shown, and whether the offset is
+pub record IsGuess (pattern text : List ℕ) (values : List ℤ) (has_offset : Bool) : Type 0 where
   pub readable : IsReadablePattern pattern
   pub values_are : (s : Shown) → IsReading pattern text s → (k : ℕ) → k < 11
       → get_or values k (pos 0) ≡ value s k
   pub hidden : (k : ℕ) → k < 11 → are_shown k (items_of pattern) ≡ false
       → get_or values k (pos 0) ≡ pos 0
-  pub offset : get_or shown 10 false ≡ are_shown 10 (items_of pattern)
+  pub offset : has_offset ≡ are_shown 10 (items_of pattern)
 
 -- the values are the parts of a date time
 abbrev pub AreParts : List ℤ → Shown → Type 0

@@ -354,7 +354,6 @@ impl Line {
 }
 
 /// Appends what a pattern prints.
-
 pub(crate) fn push_pattern(line: &mut Line, pattern: &str, moment: &Moment<'_>)
     requires empty { line.old ≡ [] }
     requires shown { IsShown (shown_of moment.now) }

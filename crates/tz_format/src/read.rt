@@ -148,7 +148,7 @@ fn offset_at(text: &[u8], minutes: usize) -> i32
     }
 }
 
-/// What is read of a pattern and a text: the values of the parts, and which parts are shown.
+/// What is read so far of a pattern and a text: the values of the parts, and which parts are shown.
 #[derive(Clone, Copy)]
 struct Guess {
     values: [i32; 13],
@@ -331,10 +331,17 @@ fn is_whole(shown: &[bool; 13]) -> bool
     shown[3] == shown[4]
 }
 
+/// The values of the parts, and whether the offset is shown: of the other parts nobody asks.
+#[derive(Clone, Copy)]
+struct ReadParts {
+    values: [i32; 13],
+    has_offset: bool,
+}
+
 /// What a text shows, if the pattern prints it; `None` if the pattern is not read.
-fn read_parts(pattern: &[u8], text: &[u8]) -> Option<Guess>
+fn read_parts(pattern: &[u8], text: &[u8]) -> Option<ReadParts>
     requires { first_unknown (items_of pattern.now) ≡ None }
-    ensures some { IfSome result (λ g. IsGuess pattern.now text.now g.values g.shown) }
+    ensures some { IfSome result (λ g. IsGuess pattern.now text.now g.values g.has_offset) }
     ensures none { IfNone result (are_readable (items_of pattern.now) ≡ false) }
 {
     let mut guess = Guess {
@@ -356,7 +363,10 @@ fn read_parts(pattern: &[u8], text: &[u8]) -> Option<Guess>
         }
     }
     if is_whole(&guess.shown) {
-        Some(guess)
+        Some(ReadParts {
+            values: guess.values,
+            has_offset: guess.shown[10],
+        })
     } else {
         None
     }
@@ -567,7 +577,7 @@ impl Pattern<'_> {
         }
         Ok(ReadDateTime {
             local: found.0,
-            ut_offset: offset_if(guess.shown[10], &found.1),
+            ut_offset: offset_if(guess.has_offset, &found.1),
         })
     }
 }

@@ -127,7 +127,7 @@ fn offset_at(text: &[u8], minutes: usize) -> i32 {
     }
 }
 
-/// What is read of a pattern and a text: the values of the parts, and which parts are shown.
+/// What is read so far of a pattern and a text: the values of the parts, and which parts are shown.
 #[derive(Clone, Copy)]
 struct Guess {
     values: [i32; 13],
@@ -289,8 +289,15 @@ fn is_whole(shown: &[bool; 13]) -> bool {
     shown[3] == shown[4]
 }
 
+/// The values of the parts, and whether the offset is shown: of the other parts nobody asks.
+#[derive(Clone, Copy)]
+struct ReadParts {
+    values: [i32; 13],
+    has_offset: bool,
+}
+
 /// What a text shows, if the pattern prints it; `None` if the pattern is not read.
-fn read_parts(pattern: &[u8], text: &[u8]) -> Option<Guess> {
+fn read_parts(pattern: &[u8], text: &[u8]) -> Option<ReadParts> {
     let mut guess = Guess {
         values: [0; 13],
         shown: [false; 13],
@@ -310,7 +317,10 @@ fn read_parts(pattern: &[u8], text: &[u8]) -> Option<Guess> {
         }
     }
     if is_whole(&guess.shown) {
-        Some(guess)
+        Some(ReadParts {
+            values: guess.values,
+            has_offset: guess.shown[10],
+        })
     } else {
         None
     }
@@ -491,7 +501,7 @@ impl Pattern<'_> {
         }
         Ok(ReadDateTime {
             local: found.0,
-            ut_offset: offset_if(guess.shown[10], &found.1),
+            ut_offset: offset_if(guess.has_offset, &found.1),
         })
     }
 }

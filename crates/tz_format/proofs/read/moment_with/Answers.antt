@@ -1,5 +1,5 @@
 -- A part that is out of range is that of no date time.
-use Rattle.std.proofs.Common.{arith, rules, lit<, ◌≡◌, ◌∙◌, ap, sym, subst, pos, get_or, ◌/◌, ◌%◌, to_z, of_z, w32}
+use Rattle.std.proofs.Common.{arith, rules, lit<, ◌∙◌, ap, sym, subst, pos, get_or, ◌/◌, ◌%◌, to_z, of_z, w32}
 use Rattle.std.specs.Prelude.{unsigned_abs}
 use Rattle.std.proofs.lemmas.Int.{to_z-of_z}
 use Rattle.tz.specs.DateTimes.{IsUtcFault}

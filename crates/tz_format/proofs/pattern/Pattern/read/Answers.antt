@@ -12,10 +12,10 @@ returns-then-not-is_printed-clause-err c =
     let pattern = c.args.self.now.text.now in
     let text = c.args.text.now in
     let values = c.in-Some.guess.values in
-    let shown = c.in-Some.guess.shown in
+    let has_offset = c.in-Some.guess.has_offset in
     let pattern_is : c.as_bytes.result.now ≡ pattern = c.as_bytes.ensures.value ∙ c.as_str.ensures in
-    let guess : IsGuess pattern text values shown =
-    subst (λ p. IsGuess p text values shown) pattern_is c.in-Some.ensures.some in
+    let guess : IsGuess pattern text values has_offset =
+    subst (λ p. IsGuess p text values has_offset) pattern_is c.in-Some.ensures.some in
     let m = shown_of c.in-Some-moment_with.found.1 in
     let (plain, parts, local_is) = c.in-Some-moment_with.ensures.some in
     let (position, is) = c.mismatch-then-not-is_printed.ensures in
@@ -32,10 +32,10 @@ returns-clause-once c = λ s reading.
     let pattern = c.args.self.now.text.now in
     let text = c.args.text.now in
     let values = c.in-Some.guess.values in
-    let shown = c.in-Some.guess.shown in
+    let has_offset = c.in-Some.guess.has_offset in
     let pattern_is : c.as_bytes.result.now ≡ pattern = c.as_bytes.ensures.value ∙ c.as_str.ensures in
-    let guess : IsGuess pattern text values shown =
-    subst (λ p. IsGuess p text values shown) pattern_is c.in-Some.ensures.some in
+    let guess : IsGuess pattern text values has_offset =
+    subst (λ p. IsGuess p text values has_offset) pattern_is c.in-Some.ensures.some in
     let m = shown_of c.in-Some-moment_with.found.1 in
     let (plain, parts, local_is) = c.in-Some-moment_with.ensures.some in
     let same : m ≡ s = same_shown m s plain reading.plain
