@@ -13,8 +13,8 @@ use tz::proved::tz::constants::{NANOSECONDS_PER_SECOND, SECONDS_PER_DAY, SECONDS
 use tz::proved::tz::datetime::{DateTime, FoundDateTimeKind};
 use tz::proved::tz::error::datetime::DateTimeError;
 use tz::proved::tz::inner::{
-    self, FewEntries, Fields, TextBuffer, WindowTypes, ends_by_types, fields_of, local_reading,
-    plain, types_of_window, window_of,
+    self, Fields, TextBuffer, WindowTypes, fields_of, local_reading, plain, types_of_window,
+    window_of,
 };
 use tz::proved::tz::{LocalTimeType, TimeZone, TimeZoneRef, TzError, UtcDateTime};
 
@@ -456,67 +456,10 @@ impl<'a, A: Allocator + Copy> Answers<'a, A> {
         }
     }
 
-    /// Writes the answer lines of fields over which a clock is set forward, or searches for them if
-    /// a side of the jump is in no year of 32 bits.
-    fn push_jump(
-        &mut self,
-        fields: Fields,
-        nanoseconds: Nanoseconds,
-        unix_time: i64,
-        before: &LocalTimeType,
-        after: &LocalTimeType,
-    ) -> Written {
-        let Some(first) = shown_fields(unix_time, before.ut_offset()) else {
-            return self.answer_by_search(fields, nanoseconds);
-        };
-        let Some(second) = shown_fields(unix_time, after.ut_offset()) else {
-            return self.answer_by_search(fields, nanoseconds);
-        };
-        self.push_shown(b"F 1\nS ", &first, before, &nanoseconds)?;
-        self.output.page.pop();
-        self.push_shown(b" ", &second, after, &nanoseconds)
-    }
-
-    /// Answers fields by the types that the clock has in their window. Values are passed as copies,
-    /// so that the loop over lines keeps them in registers.
-    fn answer_by_types(
-        &mut self,
-        types: &WindowTypes<'a>,
-        fields: Fields,
-        nanoseconds: Nanoseconds,
-        reading: i64,
-        low: i64,
-        high: i64,
-    ) -> Written {
-        let Ok(ends) = ends_by_types(reading, &plain(&self.zone), *types, low, high) else {
-            return self.answer_by_search(fields, nanoseconds);
-        };
-        match ends.few() {
-            FewEntries::Nothing => self.output.push_count(b'F', 0),
-            FewEntries::Once(_, local_time_type) => {
-                self.push_shown(b"F 1\nN ", &fields, local_time_type, &nanoseconds)
-            }
-            FewEntries::Twice(_, first, _, last) => {
-                self.push_shown(b"F 2\nN ", &fields, first, &nanoseconds)?;
-                self.push_shown(b"N ", &fields, last, &nanoseconds)
-            }
-            FewEntries::Skipped(unix_time, before, after) => {
-                self.push_jump(fields, nanoseconds, unix_time, before, after)
-            }
-            FewEntries::More(_) => self.answer_by_search(fields, nanoseconds),
-        }
-    }
-
-    /// Looks up the types that the clock has in a window, and returns the type if there is one.
-    fn type_in_window(
-        &mut self,
-        types: &mut WindowTypes<'a>,
-        low: i64,
-        high: i64,
-    ) -> Option<&'a LocalTimeType> {
+    /// The type that the clock has throughout a window, if it has one.
+    fn type_in_window(&mut self, low: i64, high: i64) -> Option<&'a LocalTimeType> {
         self.follow(low);
-        *types = types_of_window(&plain(&self.zone), low, high);
-        match *types {
+        match types_of_window(&plain(&self.zone), low, high) {
             WindowTypes::One(local_time_type) => Some(local_time_type),
             _ => None,
         }
@@ -535,9 +478,8 @@ impl<'a, A: Allocator + Copy> Answers<'a, A> {
             let (output, suffix) = (&mut self.output, &self.segment.suffix);
             return output.push_shown(b"F 1\nN ", fields, suffix, nanoseconds);
         }
-        let mut types = WindowTypes::More(None);
-        let Some(local_time_type) = self.type_in_window(&mut types, low, high) else {
-            return self.answer_by_types(&types, *fields, *nanoseconds, reading, low, high);
+        let Some(local_time_type) = self.type_in_window(low, high) else {
+            return self.answer_by_search(*fields, *nanoseconds);
         };
         self.push_shown(b"F 1\nN ", fields, local_time_type, nanoseconds)
     }

@@ -27,30 +27,6 @@ returns-then-has g c =
     (sym c.reading-reading.ensures.value) all (record { zone_is = refl; sound = λ s. s; text_is = adds u }))
     c.push_shown.ensures.text
 
-pub answer_by_types-requires : goal.answer_by_types-requires
-answer_by_types-requires g c =
-    let r = c.reading-reading.result in
-    let fits : SFits w64 r = record { sfits = c.reading-reading.type_inv } in
-    let low = c.window_of-low.result.0 in
-    let high = c.window_of-low.result.1 in
-    let r_is = to_z-of_z w64 r fits in
-    let low_is = to_z-of_z w64 low (search rules) in
-    let high_is = to_z-of_z w64 high (search rules) in
-    let kept = c.type_in_window.ensures.kept in
-    let here = subst (λ (x : Zone). IsSearchable x r low high) c.plain.ensures
-    (rw r_is at c.window_of-low.ensures.searchable) in
-    let window = subst (λ zone. IsSearchable (zone_of zone) r low high) (sym kept.zone_is) here in
-    let types = rw (low_is, high_is) at c.type_in_window.ensures.types in
-    let position = rw low_is at c.type_in_window.ensures.position in
-    rw (r_is, low_is, high_is)
-    (record {
-      valid = c.in-Ok.ensures.ok;
-      reading = c.reading-reading.ensures.value;
-      searchable = window;
-      types = types;
-      position = position;
-    })
-
 pub returns : goal.returns
 returns g c =
     let r = c.reading-reading.result in
@@ -64,13 +40,12 @@ returns g c =
     let here = subst (λ (x : Zone). IsSearchable x r low high) c.plain.ensures
     (rw r_is at c.window_of-low.ensures.searchable) in
     let window = subst (λ zone. IsSearchable (zone_of zone) r low high) (sym kept.zone_is) here in
-    let types = rw (low_is, high_is) at c.type_in_window.ensures.types in
     let z = zone_of c.type_in_window.new.self.zone in
     let f = c.args.fields.now in
     let nanoseconds = c.args.nanoseconds.now in
     let t = c.in-Some.local_time_type.now in
     let u = r -ℤ t.ut_offset in
-    let through = subst (λ (x : WindowTypes). AreTypesIn (IsClock z) low high x) c.in-Some.ensures.one types in
+    let through = rw (low_is, high_is) at c.in-Some.ensures.some in
     let all : AreEntries (IsClock z) r (Shown u t ∷ []) =
     entries_once z window.sound.leap_seconds_are r low high t u window.order window.offsets through refl in
     answered_after _ (Search (with_nanoseconds f nanoseconds)) c.push_shown-2.result kept
@@ -80,6 +55,6 @@ returns g c =
 
 pub returns-in_default-type_in_window : goal.returns-in_default-type_in_window
 returns-in_default-type_in_window g c =
-    answered_after _ (Search (with_nanoseconds c.args.fields.now c.args.nanoseconds.now)) c.answer_by_types.result
+    answered_after _ (Search (with_nanoseconds c.args.fields.now c.args.nanoseconds.now)) c.answer_by_search-in_default-type_in_window.result
     c.type_in_window.ensures.kept
-    c.answer_by_types.ensures
+    c.answer_by_search-in_default-type_in_window.ensures
