@@ -64,7 +64,7 @@ pub use Rattle.tz_zone.specs.ValidZone.{AreLeapSeconds, IsSoundTable}
 pub use Rattle.tz_zone.specs.ZoneOfData.{zone_of_data}
 pub use Rattle.tz.specs.DateTimeText.{IsPair, IsDateTimeText, IsFraction, date, time, AreYearDigits, IsDigits, IsYear, duration, offset, EndsDigits, IsHours, IsSecond, IsSeconds, IsByte, IsDateTimeTextFault, IsEnd, IsMark, IsMinutes, IsSeparator, after_mark, byte, date_time}
 pub use Rattle.tz.specs.DateTimes.{DateTime, ShowsByClock, IsClockFault, IsPastTheEnd, IsUtc, ShowsInstant, moment_of, IsDateTime, IsUtcTotal, moment_cmp, total_of, utc_total}
-pub use Rattle.tz.specs.Ends.{entry_of, AreMore, GainsInside, HasInside, IsEndsOf, IsFew, IsOutsideFault, first_entry, gains_more, gains_none, instant_between}
+pub use Rattle.tz.specs.Ends.{entry_of, AreMore, GainsInside, HasInside, IsEndsOf, IsOutsideFault, first_entry, gains_more, gains_none, instant_between}
 pub use Rattle.tz.specs.Entries.{Shown, Jump, Entry, IsEntryInside, HasTwoTypes, IsEntryIn, lent_type, AreEntries, IsEntryOf, IsRefused, AreEntriesBefore, HoldsAt, IsEarlier, IsEntryOutside, IsGiven, IsTaker}
 pub use Rattle.tz.specs.EntryDateTimes.{IsMadeOf, IsDateTimeOf, IsDatedFault, dated_goes_on, dated_more, dated_none}
 pub use Rattle.tz.specs.FindFaults.{IsFindFault, IsPromised, IsSearchFault, HasPlainOffsets, HasRuleOffsets, IsFarFromEnds, IsInsideEnds}

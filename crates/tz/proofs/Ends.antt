@@ -1,5 +1,5 @@
 -- Entries that are all inside the years of 32 bits have a list of date times, and its ends are those of the entries.
-use Rattle.tz.proofs.Common.{arith, refl, ◌≡◌, subst, ◌∙◌, inr, sym, [], ap, ℕ, ◌∷◌, ◌<◌, List, length, ℤ, Fields, IsClock, Some, Zone, ◌++◌, suc, ◌-ℤ◌, zero, ◌+ℤ◌, ◌-◌, IsValid, None, Option, LocalTimeType, reading, Shown, get_or, Jump, Normal, Entry, FoundDateTimeKind, length-append, Clock, DateTime, EachCanBeMade, IsReading, Skipped, TzError, IsEntryInside, IsFound, IsEntryIn, ShowsByClock, All, Disambiguation, HasMeaning, IsClockFault, IsMeaning, IsMeantIn, More, ShowsInstant, entry_of, instant_meant, moment_of, ⊤, AllZip, AllZip-long, Bor, Compatible, Earlier, IsMadeOf, IsMeaningFault, IsRefused, IsSearchFault, Later, Nothing, Once, Reject, Shows, Twice, meaning_of, option_map, option_or, slice_get, slice_get-get_or, All-head, All-tail, AreMore, GainsInside, HasInside, IsEndsOf, IsOutsideFault, IsTaker, first_entry, gains_more, gains_none, instant_between}
+use Rattle.tz.proofs.Common.{arith, refl, ◌≡◌, ◌≢◌, subst, ◌∙◌, inr, sym, [], ap, ℕ, ◌∷◌, ◌<◌, List, length, ℤ, Fields, IsClock, Some, Zone, ◌++◌, suc, ◌-ℤ◌, zero, ◌+ℤ◌, ◌-◌, IsValid, None, Option, LocalTimeType, reading, Shown, get_or, Jump, Normal, Entry, FoundDateTimeKind, length-append, Clock, DateTime, EachCanBeMade, IsReading, Skipped, TzError, IsEntryInside, IsFound, IsEntryIn, ShowsByClock, All, Disambiguation, HasMeaning, IsClockFault, IsMeaning, IsMeantIn, More, ShowsInstant, entry_of, instant_meant, moment_of, ⊤, AllZip, AllZip-long, Bor, Compatible, Earlier, IsMadeOf, IsMeaningFault, IsRefused, IsSearchFault, Later, Nothing, Once, Reject, Shows, Twice, meaning_of, option_map, option_or, slice_get, slice_get-get_or, All-head, All-tail, AreMore, GainsInside, HasInside, IsEndsOf, IsOutsideFault, IsTaker, first_entry, gains_more, gains_none, instant_between}
 use Rattle.tz.specs.Ends.{entry_meant, first_shown, last_entry}
 use Rattle.tz.specs.Meanings.{entry_meant as found_meant, first_shown as first_found_shown, last_entry as last_found}
 use Rattle.tz.specs.declared.datetime.disambiguation.Ends.{Ends}
@@ -122,6 +122,41 @@ none_of_last (e ∷ es) ends are none =
     ap (λ (i : ℕ). slice_get (e ∷ es) i) (omega arith) ∙ slice_get-get_or (e ∷ es) (length es) e (omega arith) in
     let wrong = ap (λ (k : Option LentEntry). option_map entry_of k) none in
     absurd (cc (are.last_is, wrong, last))
+
+-- two of which the last is a jump are more than a fold
+ends_in_jump : (x : Entry) (u : ℤ) (a b : LocalTimeType) → AreMore (x ∷ Jump u a b ∷ [])
+ends_in_jump (Shown v t) u a b = tt
+ends_in_jump (Jump v s t) u a b = tt
+
+pub more_with_jump : (es : List Entry) (ends : Ends) → IsEndsOf es ends → (e : LentEntry) → ends.count ≡ 2
+    → ends.first ≡ Some e → (u : ℤ) (a b : Bor LocalTimeType) → ends.last ≡ Some (lent.Jump u a b) → AreMore es
+more_with_jump es ends are e two first u a b last =
+    subst AreMore (sym (two_of es ends are e (lent.Jump u a b) two first last))
+    (ends_in_jump (entry_of e) u a.now b.now)
+
+-- and so are three
+pub more_than_two : (es : List Entry) (ends : Ends) → IsEndsOf es ends → (e : LentEntry) → ends.first ≡ Some e
+    → ends.count ≢ 1 → ends.count ≢ 2 → AreMore es
+more_than_two [] ends are e first one two =
+    let some = ap (λ (k : Option LentEntry). option_map entry_of k) first in
+    absurd (cc (are.first_is, some))
+more_than_two (x ∷ []) ends are e first one two = absurd (one are.count_is)
+more_than_two (x ∷ y ∷ []) ends are e first one two = absurd (two are.count_is)
+more_than_two (Shown u a ∷ Shown v b ∷ x ∷ es) ends are e first one two = tt
+more_than_two (Shown u a ∷ Jump v b d ∷ x ∷ es) ends are e first one two = tt
+more_than_two (Jump u a b ∷ y ∷ x ∷ es) ends are e first one two = tt
+
+-- and more than a jump, if it is the first
+pub more_than_jump : (es : List Entry) (ends : Ends) → IsEndsOf es ends → (u : ℤ) (a b : Bor LocalTimeType)
+    → ends.first ≡ Some (lent.Jump u a b) → ends.count ≢ 1 → AreMore es
+more_than_jump [] ends are u a b first one =
+    let some = ap (λ (k : Option LentEntry). option_map entry_of k) first in
+    absurd (cc (are.first_is, some))
+more_than_jump (x ∷ []) ends are u a b first one = absurd (one are.count_is)
+more_than_jump (Shown v t ∷ y ∷ es) ends are u a b first one =
+    let some = ap (λ (k : Option LentEntry). option_map entry_of k) first in
+    absurd (cc (are.first_is, some))
+more_than_jump (Jump v s t ∷ y ∷ es) ends are u a b first one = tt
 
 -- an entry of the clock, and its date time
 abbrev pub IsDated : Clock → Fields → Entry → FoundDateTimeKind → Type 0

@@ -19,9 +19,6 @@ use Rattle.tz.specs.declared.datetime.disambiguation.Disambiguation.TheVariants.
 use Rattle.tz.specs.declared.datetime.disambiguation.Disambiguation.TheVariants.{Earlier, Later}
 use Rattle.tz.specs.declared.datetime.disambiguation.Disambiguation.TheVariants.{Reject}
 use Rattle.tz.specs.declared.datetime.disambiguation.Ends.{Ends}
-use Rattle.tz.specs.declared.datetime.disambiguation.FewEntries.{FewEntries}
-use Rattle.tz.specs.declared.datetime.disambiguation.FewEntries.TheVariants.{Nothing, Once, Twice, Skipped}
-use Rattle.tz.specs.declared.datetime.disambiguation.FewEntries.TheVariants.{More}
 use Rattle.tz.specs.declared.datetime.disambiguation.Entry.{Entry as LentEntry}
 use Rattle.tz.specs.declared.datetime.disambiguation.Entry.TheVariants as lent
 
@@ -73,18 +70,6 @@ AreMore [] = ⊥
 AreMore (e ∷ []) = ⊥
 AreMore (Shown u a ∷ Shown v b ∷ []) = ⊥
 AreMore _ = ⊤
-
--- the entries are these few, or more
-abbrev pub IsFew : List Entry → FewEntries → Type 0
-IsFew es Nothing = es ≡ []
-IsFew es (Once u t) = es ≡ Shown u t.now ∷ []
-IsFew es (Twice u a v b) = es ≡ Shown u a.now ∷ Shown v b.now ∷ []
-IsFew es (Skipped u a b) = es ≡ Jump u a.now b.now ∷ []
-IsFew es (More count) = (count ≡ length es) × AreMore es
-
--- whatever entries have these ends
-abbrev pub AreFew : Ends → FewEntries → Type 0
-AreFew ends few = (es : List Entry) → IsEndsOf es ends → IsFew es few
 
 -- the entry that is meant of whatever entries have these ends
 abbrev pub IsMeantOf : Disambiguation → Ends → Option LentEntry → Type 0

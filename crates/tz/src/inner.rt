@@ -2,7 +2,7 @@
 //! search for them, date times as plain data, and how bytes are read.
 
 pub use crate::datetime::date_time::{DateTimeData, FoundData, UtcData, fields_of};
-pub use crate::datetime::disambiguation::{Ends, FewEntries, ends_by_types, find_one};
+pub use crate::datetime::disambiguation::find_one;
 pub use crate::datetime::find::find_fields;
 pub use crate::datetime::gaps_and_folds::{types_of_window, window_of};
 pub use crate::datetime::zone_data_searches::{find_into, from_timespec};

@@ -6,7 +6,7 @@ pub use crate::proved::tz::datetime::date_time::{DateTimeData, UtcData};
 #[cfg(feature = "inner")]
 pub use crate::proved::tz::datetime::date_time::{FoundData, fields_of};
 #[cfg(feature = "inner")]
-pub use crate::proved::tz::datetime::disambiguation::{Ends, FewEntries, ends_by_types, find_one};
+pub use crate::proved::tz::datetime::disambiguation::find_one;
 #[cfg(feature = "alloc")]
 pub use crate::proved::tz::datetime::find::find_fields;
 pub use crate::proved::tz::datetime::gaps_and_folds::types_of_window;

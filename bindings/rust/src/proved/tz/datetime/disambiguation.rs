@@ -13,31 +13,16 @@ use crate::proved::tz_zone::timezone::{LocalTimeType, TimeZoneRef};
 
 /// An entry of a reading.
 #[derive(Clone, Copy)]
-pub enum Entry<'a> {
+pub(super) enum Entry<'a> {
     /// At this Unix time the clock shows the reading in this type.
     Shown(i64, &'a LocalTimeType),
     /// At this Unix time the clock is set forward over it, from the first type to the second.
     Jump(i64, &'a LocalTimeType, &'a LocalTimeType),
 }
 
-/// The entries of a reading, if they are few, as they mostly are.
-#[derive(Clone, Copy)]
-pub enum FewEntries<'a> {
-    /// There is none.
-    Nothing,
-    /// At this Unix time the clock shows the reading in this type.
-    Once(i64, &'a LocalTimeType),
-    /// At this Unix time it shows it in the first type, and at the later one in the second.
-    Twice(i64, &'a LocalTimeType, i64, &'a LocalTimeType),
-    /// At this Unix time the clock is set forward over it, from the first type to the second.
-    Skipped(i64, &'a LocalTimeType, &'a LocalTimeType),
-    /// Any others, by their number.
-    More(usize),
-}
-
 /// How many entries a reading has, the first, the last, and the first that is shown.
 #[derive(Clone, Copy)]
-pub struct Ends<'a> {
+struct Ends<'a> {
     count: usize,
     first: Option<Entry<'a>>,
     last: Option<Entry<'a>>,
@@ -58,27 +43,6 @@ fn jump_inside<'a>(
         return Err(TzError::OutOfRange);
     };
     Ok(Entry::Jump(unix_time, before, after))
-}
-
-/// One entry alone.
-#[inline]
-fn alone<'a>(entry: Entry<'a>) -> FewEntries<'a> {
-    match entry {
-        Entry::Shown(unix_time, local_time_type) => FewEntries::Once(unix_time, local_time_type),
-        Entry::Jump(unix_time, before, after) => FewEntries::Skipped(unix_time, before, after),
-    }
-}
-
-/// Two entries.
-#[inline]
-fn both<'a>(first: Entry<'a>, last: Entry<'a>) -> FewEntries<'a> {
-    match first {
-        Entry::Shown(unix_time, before) => match last {
-            Entry::Shown(later, after) => FewEntries::Twice(unix_time, before, later, after),
-            Entry::Jump(..) => FewEntries::More(2),
-        },
-        Entry::Jump(..) => FewEntries::More(2),
-    }
 }
 
 impl<'a> Ends<'a> {
@@ -111,27 +75,6 @@ impl<'a> Ends<'a> {
             Disambiguation::Later => self.last,
             Disambiguation::Reject if self.count == 1 => self.shown,
             Disambiguation::Reject => None,
-        }
-    }
-}
-
-impl<'a> Ends<'a> {
-    /// The entries, if they are few.
-    #[inline]
-    #[must_use]
-    pub fn few(&self) -> FewEntries<'a> {
-        let Some(first) = self.first else {
-            return FewEntries::Nothing;
-        };
-        let Some(last) = self.last else {
-            return FewEntries::Nothing;
-        };
-        if self.count == 1 {
-            alone(first)
-        } else if self.count == 2 {
-            both(first, last)
-        } else {
-            FewEntries::More(self.count)
         }
     }
 }
@@ -180,7 +123,7 @@ fn ends_by_walk<'a>(
 ///
 /// [`TzError::OutOfRange`] if a side of a jump is outside the years of an `i32`.
 #[inline]
-pub fn ends_by_types<'a>(
+fn ends_by_types<'a>(
     reading: i64,
     zone: &ZoneData<'a>,
     types: WindowTypes<'a>,
@@ -309,18 +252,18 @@ fn meaning_in(fields: &Fields, zone: &ZoneData<'_>) -> Result<Meaning, TzError> 
     let (low, high) = window_of(zone, reading);
     let types = types_of_window(zone, low, high);
     let ends = ends_by_types(reading, zone, types, low, high)?;
-    match ends.few() {
-        FewEntries::Nothing => Ok(Meaning::Nothing),
-        FewEntries::Once(unix_time, local_time_type) => {
+    let Some(first) = ends.first else {
+        return Ok(Meaning::Nothing);
+    };
+    let Some(last) = ends.last else {
+        return Ok(Meaning::Nothing);
+    };
+    match first {
+        Entry::Shown(unix_time, local_time_type) if ends.count == 1 => {
             let date_time = DateTime::of_fields(fields, *local_time_type, unix_time);
             Ok(Meaning::Once(date_time))
         }
-        FewEntries::Twice(unix_time, before, later, after) => {
-            let first = DateTime::of_fields(fields, *before, unix_time);
-            let last = DateTime::of_fields(fields, *after, later);
-            Ok(Meaning::Twice { first, last })
-        }
-        FewEntries::Skipped(unix_time, before, after) => {
+        Entry::Jump(unix_time, before, after) if ends.count == 1 => {
             let before_transition = DateTime::shown_by(unix_time, fields.nanoseconds, *before)?;
             let after_transition = DateTime::shown_by(unix_time, fields.nanoseconds, *after)?;
             Ok(Meaning::Skipped {
@@ -328,7 +271,15 @@ fn meaning_in(fields: &Fields, zone: &ZoneData<'_>) -> Result<Meaning, TzError> 
                 after_transition,
             })
         }
-        FewEntries::More(count) => Ok(Meaning::More(count)),
+        Entry::Shown(unix_time, before) if ends.count == 2 => match last {
+            Entry::Shown(later, after) => {
+                let first = DateTime::of_fields(fields, *before, unix_time);
+                let last = DateTime::of_fields(fields, *after, later);
+                Ok(Meaning::Twice { first, last })
+            }
+            Entry::Jump(..) => Ok(Meaning::More(2)),
+        },
+        _ => Ok(Meaning::More(ends.count)),
     }
 }
 
