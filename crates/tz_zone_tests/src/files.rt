@@ -30,7 +30,9 @@ fn a_file_of_the_machine_is_read_whole(rt: HostRuntime) -> Result<(), Fail> {
     let alloc = rt.alloc();
     let bytes = many_bytes(alloc)?;
     assert!(rt; bytes.len() % 2000 != 0);
-    let name = format!(in alloc; "tz-read-file-{}", process::id(rt.process()))?;
+    // Names of files may have 255 bytes.
+    let letters = "x".repeat(alloc, 220)?;
+    let name = format!(in alloc; "tz-read-file-{}-{letters}", process::id(rt.process()))?;
     let path = env::temp_dir(&rt)?.join(alloc, name.as_str())?;
     fs::write(&rt, path.as_str(), bytes.as_slice())?;
     let read = read_file(&rt, alloc, path.as_str());
@@ -142,7 +144,8 @@ fn a_file_is_read_up_to_a_limit(rt: HostRuntime) -> Result<(), Fail> {
         (usize::MAX, None),
     ];
     let alloc = rt.alloc();
-    let name = format!(in alloc; "tz-read-file-up-to-{}", process::id(rt.process()))?;
+    let letters = "x".repeat(alloc, 220)?;
+    let name = format!(in alloc; "tz-read-file-up-to-{}-{letters}", process::id(rt.process()))?;
     let path = env::temp_dir(&rt)?.join(alloc, name.as_str())?;
     expect_up_to(&rt, alloc, path.as_str(), &ROWS)
 }
