@@ -202,6 +202,18 @@ pub fn found_date_times_are_shown()
         → ShowsByClock z d.unix_time f.nanoseconds d }
 {}
 
+/// A search inverts lookups: what [`crate::DateTime::find`] lists of fields with a second below 60
+/// contains a date time exactly if [`crate::DateTime::from_timespec`] shows it at its Unix time,
+/// with these fields.
+pub fn searches_invert_lookups()
+    ensures { (z : Zone) (f : Fields) (d : DateTime) (found : List FoundDateTimeKind) → IsValid f
+        → f.second < 60 → IsFound (IsClock z) f found → Contains found (normal d)
+        ↔ (ShowsByClock z d.unix_time f.nanoseconds d × (d.fields ≡ f)) }
+{
+    found_date_times_are_shown();
+    shown_date_times_are_found();
+}
+
 /// If the list of a search in a zone is promised, each of its entries can be made.
 pub fn promised_entries_can_be_made(zone: &TimeZoneRef<'_>)
     ensures { (f : Fields) → IsValid f → IsPromised (zone_of zone.now) f.year
