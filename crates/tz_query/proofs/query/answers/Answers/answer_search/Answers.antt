@@ -55,6 +55,7 @@ returns g c =
 
 pub returns-in_default-type_in_window : goal.returns-in_default-type_in_window
 returns-in_default-type_in_window g c =
-    answered_after _ (Search (with_nanoseconds c.args.fields.now c.args.nanoseconds.now)) c.answer_by_search-in_default-type_in_window.result
+    answered_after _ (Search (with_nanoseconds c.args.fields.now c.args.nanoseconds.now))
+    c.answer_by_search-in_default-type_in_window.result
     c.type_in_window.ensures.kept
     c.answer_by_search-in_default-type_in_window.ensures
