@@ -118,6 +118,7 @@ DRIVEN = 'called by a driver of {cxx}, `-O2`'
 BUILDS = {
     'tz': 'the proved build, by {kit} for x86-64-v2',
     'through-C': f'the proved build as the library of `bindings/c`, {DRIVEN}',
+    'C-cargo': f'the generated library of `bindings/c`, by {{rustc}} as cargo builds it, {DRIVEN}',
     'through-Rust': 'the generated crate of `bindings/rust`, by {rustc} with `lto`',
     'Rust-default': 'the same by cargo\'s default release profile, as most programs are built',
     'tz-rs': 'by {rustc} with `lto`',

@@ -21,7 +21,7 @@ import rows
 TOP = pathlib.Path(__file__).resolve().parent.parent
 PAGE = TOP / 'docs' / 'BENCHMARKS.md'
 COLUMNS = 100
-THROUGH = ('through-C', 'through-Rust', 'Rust-default')
+THROUGH = ('through-C', 'C-cargo', 'through-Rust', 'Rust-default')
 OWN = ('tz', 'through-Rust', 'Rust-default')
 PEERS = ('tz-rs', 'glibc', 'cctz', 'date', 'chrono-tz', 'Go', 'jiff')
 WIDTH, LEFT, BAR, HEAD, LONGEST = 900, 330, 11, 46, 4000
