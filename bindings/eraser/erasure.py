@@ -203,7 +203,7 @@ METHODS = {
 
 # Structs whose fields the C library writes, from pointers.
 OPEN_FIELDS = {
-    "crates/tz_c/src/zone_data.rt": ("ZoneData",),
+    "crates/tz_c/src/zone_data.rt": ("TzZone",),
     "crates/tz_c/src/zones.rt": ("PartsData",),
 }
 

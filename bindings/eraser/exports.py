@@ -6,7 +6,7 @@ C's parameters, which makes references of the pointers and calls it.
     text: &mut [u8]       text: *mut u8, text_length: usize         list_mut(text, text_length)
     fields: &T            fields: *const T                          one(fields)
     out: &mut T           out: *mut T                               &mut Out::new(out).value
-    zone: &ZoneData<'_>   zone: *const Zone                         &one(zone).data()
+    zone: &TzZone<'_>     zone: *const Zone                         &one(zone).data()
     alloc: Global         (it takes no bytes)                       Global
     n: u8                 as it stands                              as it stands
 
@@ -24,7 +24,7 @@ from .tokens import OPEN, Stop, closing, tokens_of
 
 EXPORT = re.compile(r'#\[unsafe\(no_mangle\)\]\s*pub extern "C" fn (\w+)(?=\()')
 # What a struct of slices is in C.
-MIRRORS = {"ZoneData": "Zone", "PartsData": "Parts"}
+MIRRORS = {"TzZone": "Zone", "PartsData": "Parts"}
 NUMBER = r"(?:bool|[iu](?:8|16|32|64)|usize)"
 PARAMETER = re.compile(r"(?P<reference>&(?P<mut>mut )?)?(?P<list>\[)?(?P<type>\w+)(?:<'_>)?\]?")
 HEAD = """//! The functions of tz.h, each by one pattern: from what C passes it makes what the function of a

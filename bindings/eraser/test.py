@@ -298,14 +298,14 @@ class Exports(unittest.TestCase):
         wanted = "pub struct Two<'a> {\n    pub one: &'a [u8],\n    pub three: i32,\n}\n"
         self.assertEqual(wanted, exports.with_open_fields(text, ("Two",)))
 
-    def both(self, given, answer="u32", imports="use tz_zone::{Global, ZoneData};\n"):
+    def both(self, given, answer="u32", imports="use tz_zone::{Global, TzZone};\n"):
         text = f'{imports}\n/// Docs.\n#[unsafe(no_mangle)]\npub extern "C" fn two({given}) -> {answer} {{\n    3\n}}\n'
         own = exports.without_exports(PATH, text)
         return own, exports.exported([(PATH, "crate::one", text)])
 
     def test_slices_and_structs_of_slices(self):
         own, made = self.both(
-            "a: Global, b: &[i64], c: &ZoneData<'_>, d: &mut [u8], e: i8, f: &mut usize"
+            "a: Global, b: &[i64], c: &TzZone<'_>, d: &mut [u8], e: i8, f: &mut usize"
         )
         self.assertIn("/// Docs.\n#[inline(always)]\npub fn two(a: Global, b: &[i64], c:", own)
         self.assertIn("use crate::{one};", made)
@@ -358,10 +358,10 @@ class Exports(unittest.TestCase):
         for given in (
             "a: Two",
             "a: &Option<u8>",
-            "a: &mut ZoneData<'_>",
-            "a: ZoneData<'_>",
+            "a: &mut TzZone<'_>",
+            "a: TzZone<'_>",
             "a: *const u8",
-            "a: &[ZoneData<'_>]",
+            "a: &[TzZone<'_>]",
         ):
             with self.assertRaisesRegex(Stop, "two takes what is not known to cross"):
                 self.both(given)

@@ -193,7 +193,7 @@ class Exports(unittest.TestCase):
 
     SOURCE = (
         "crates/tz_c/src/one.rt",
-        '#[unsafe(no_mangle)]\npub extern "C" fn two(a: Global, b: &[u8], c: &ZoneData<\'_>, d: &mut [i64], e: u8) -> u32\n'
+        '#[unsafe(no_mangle)]\npub extern "C" fn two(a: Global, b: &[u8], c: &TzZone<\'_>, d: &mut [i64], e: u8) -> u32\n'
         '    ensures { result ≡ 1 }\n{\n    1\n}\n\n#[unsafe(no_mangle)]\npub extern "C" fn three(a: u8, b: u8) -> u32 {\n    2\n}\n\n'
         '#[unsafe(no_mangle)]\npub extern "C" fn four(a: &Five, b: &Five, c: &mut usize, d: &mut usize) -> u32 {\n    2\n}\n\n'
         "#[repr(C)]\npub struct PartsData<'a> {\n    pub(crate) one: &'a [One],\n    two: Two,\n    ghost sound: { one ≡ two },\n}\n",

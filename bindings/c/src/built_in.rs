@@ -5,7 +5,7 @@ use crate::exports::Zone;
 use crate::pointers::{Out, list, list_mut};
 use crate::proved::tz_c::codes::OUT_OF_RANGE;
 use crate::proved::tz_c::texts::write_text;
-use crate::proved::tz_c::zone_data::ZoneData;
+use crate::proved::tz_c::zone_data::TzZone;
 use crate::proved::tz_c::zones::{OffsetsData, PartsData};
 use core::{slice, str};
 use tz::TimeZoneRef;
@@ -13,7 +13,7 @@ use tz::proved::tz_rule::inner::RuleRef;
 use tz::proved::tz_zone::inner::plain;
 
 /// The parts and the offsets of a zone.
-fn data_of(zone: TimeZoneRef<'static>) -> ZoneData<'static> {
+fn data_of(zone: TimeZoneRef<'static>) -> TzZone<'static> {
     let plain = plain(&zone);
     let (fixed, alternate): (&[_], &[_]) = match plain.rule() {
         Some(RuleRef::Fixed(local_time_type)) => (slice::from_ref(local_time_type), &[]),
@@ -21,7 +21,7 @@ fn data_of(zone: TimeZoneRef<'static>) -> ZoneData<'static> {
         None => (&[], &[]),
     };
     let (least, greatest) = plain.offsets();
-    ZoneData {
+    TzZone {
         parts: PartsData {
             transitions: plain.transitions(),
             local_time_types: plain.local_time_types(),

@@ -6,14 +6,15 @@
 #[cfg(feature = "zones")]
 use crate::pointers::lent;
 use crate::pointers::{Out, list, list_mut, one};
+use crate::proved::tz_c::date_time_data::{DateTimeData, FoundData, UtcData};
 use crate::proved::tz_c::date_times::ParsedData;
 use crate::proved::tz_c::dates::DateData;
 use crate::proved::tz_c::rule_data::RuleData;
 use crate::proved::tz_c::texts::SettingData;
-use crate::proved::tz_c::zone_data::ZoneData;
+use crate::proved::tz_c::zone_data::TzZone;
 use crate::proved::tz_c::zones::{ChangeData, ConflictData, OffsetsData, PartsData, SegmentData};
 use crate::proved::tz_c::{codes, columns, date_times, dates, formats, searches, texts, zones};
-use tz::proved::tz::inner::{DateTimeData, Fields, FoundData, UtcData};
+use tz::proved::tz::inner::Fields;
 use tz::proved::tz::{DateTime, UtcDateTime};
 use tz::proved::tz_civil::WeekDate;
 use tz::proved::tz_rule::inner::{AlternateData, DayData};
@@ -22,7 +23,7 @@ use tz::proved::tz_zone::inner::FileSizes;
 use tz::proved::tz_zone::timezone::{LeapSecond, Transition};
 use tz::shim::alloc::Global;
 
-/// A `ZoneData` as C has it: pointers and lengths.
+/// A `TzZone` as C has it: pointers and lengths.
 #[repr(C)]
 pub struct Zone {
     parts: Parts,
@@ -30,7 +31,7 @@ pub struct Zone {
 }
 
 // `tz_layout` writes the size of what the functions take.
-const _: () = assert!(size_of::<Zone>() == size_of::<ZoneData<'static>>());
+const _: () = assert!(size_of::<Zone>() == size_of::<TzZone<'static>>());
 
 impl Zone {
     /// The slices.
@@ -39,10 +40,10 @@ impl Zone {
     ///
     /// Each pointer is as [`list`] requires it, as long as the slices are used.
     #[inline(always)]
-    pub(crate) unsafe fn data(&self) -> ZoneData<'_> {
+    pub(crate) unsafe fn data(&self) -> TzZone<'_> {
         // SAFETY: `list` requires of each pointer what this function does.
         unsafe {
-            ZoneData {
+            TzZone {
                 parts: self.parts.data(),
                 offsets: self.offsets,
             }
@@ -51,7 +52,7 @@ impl Zone {
 
     /// What C sees of slices of the library's own memory.
     #[cfg(feature = "zones")]
-    pub(crate) fn of(data: ZoneData<'static>) -> Self {
+    pub(crate) fn of(data: TzZone<'static>) -> Self {
         let parts = Parts::of(data.parts);
         let offsets = data.offsets;
         Zone { parts, offsets }

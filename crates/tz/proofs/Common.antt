@@ -62,6 +62,7 @@ pub use Rattle.tz_zone.specs.Table.{Zone, LeapSecond, Transition}
 pub use Rattle.tz_zone.specs.TzText.{Begins, IsTimeUpTo, IsNumber, IsRuleText, IsTimeOfRule, TimeText, seconds_of, AlternateText, IsAlternateInRange, IsAlternateText, IsDay, IsDayTime, IsDaylightOffset, IsHms, IsName, IsNameAndOffset, IsPart, IsRuleInRange, IsRun, IsSignedTime, IsTzText, SwitchText, day_time_hours, daylight_offset_of, dst_type_of, is_in_brackets, offset_hours, rule_of, std_type_of, ut_offset_of}
 pub use Rattle.tz_zone.specs.ValidZone.{AreLeapSeconds, IsSoundTable}
 pub use Rattle.tz_zone.specs.ZoneOfData.{zone_of_data}
+pub use Rattle.tz.specs.Buffers.{placed}
 pub use Rattle.tz.specs.DateTimeText.{IsPair, IsDateTimeText, IsFraction, date, time, AreYearDigits, IsDigits, IsYear, duration, offset, EndsDigits, IsHours, IsSecond, IsSeconds, IsByte, IsDateTimeTextFault, IsEnd, IsMark, IsMinutes, IsSeparator, after_mark, byte, date_time}
 pub use Rattle.tz.specs.DateTimes.{DateTime, ShowsByClock, IsClockFault, IsPastTheEnd, IsUtc, ShowsInstant, moment_of, IsDateTime, IsUtcTotal, moment_cmp, total_of, utc_total}
 pub use Rattle.tz.specs.Ends.{entry_of, AreMore, GainsInside, HasInside, IsEndsOf, IsOutsideFault, first_entry, gains_more, gains_none, instant_between}
@@ -72,7 +73,6 @@ pub use Rattle.tz.specs.Found.{Clock, EachCanBeMade, IsFound, IsFoundBy, PassesO
 pub use Rattle.tz.specs.LocalMeanings.{HasMeaning, meaning_of, ChoicesAgree}
 pub use Rattle.tz.specs.Meanings.{IsMeaning, IsMeantIn, instant_meant, IsMeaningFault, entry_meant, IsMeantFault, first_shown, last_entry, only_shown}
 pub use Rattle.tz.specs.Outcomes.{IsOutcome}
-pub use Rattle.tz.specs.Plain.{found_data, placed}
 pub use Rattle.tz.specs.PrintedBytes.{AreBetween, IsDigitByte}
 pub use Rattle.tz.specs.PrintedText.{last_digits, seconds_text}
 unfoldable pub use Rattle.tz.specs.PrintedText.{two_digits, duration_text, nine_digits, offset_text, printed_text, date_text, time_text, two_digits_or_more, middle_text}

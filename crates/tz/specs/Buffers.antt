@@ -1,11 +1,17 @@
 -- Slots of a caller: how many entries were found, and the slots if those from a number on were
 -- written.
-use Rattle.std.specs.Prelude.{◌≡◌, List, [], ◌++◌, length, map, drop}
+use Rattle.std.specs.Prelude.{◌≡◌, List, [], ◌∷◌, ◌++◌, length, map, drop}
 use Rattle.std.proofs.Common.{refl, ◌∙◌}
 use Rattle.tz.specs.Growth.{HoldsMore, holds_more, holds_none}
-use Rattle.tz.specs.Plain.{placed}
 use Rattle.tz.specs.declared.datetime.found.FoundDateTimeKind.{FoundDateTimeKind}
 use Rattle.tz.specs.declared.datetime.entry_takers.SlotWriter.{SlotWriter}
+
+-- slots into which a list is put: its front, as far as the slots go, and then the other slots as
+-- they were
+abbrev pub placed : {A : Type 0} → List A → List A → List A
+placed [] xs = []
+placed (slot ∷ slots) [] = slot ∷ slots
+placed (slot ∷ slots) (x ∷ xs) = x ∷ placed slots xs
 
 module _ {S : Type 0} (holding : FoundDateTimeKind → S) where
   -- the writer counts the list, and its entries from a number on are in the slots, which were these

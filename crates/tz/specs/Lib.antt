@@ -24,4 +24,3 @@ pub mod SlotEquality
 pub mod Meanings
 pub mod LocalMeanings
 pub mod Ends
-pub mod Plain

@@ -1,10 +1,12 @@
 //! For the crates above and their tests, and no part of the public surface: fields, text, the
-//! search for them, date times as plain data, and how bytes are read.
+//! search for them, the slots that it fills, and how bytes are read.
 
-pub use crate::datetime::date_time::{DateTimeData, FoundData, UtcData, fields_of};
+pub use crate::datetime::date_time::fields_of;
 pub use crate::datetime::disambiguation::find_one;
+pub use crate::datetime::entry_takers::Slot;
 pub use crate::datetime::find::find_fields;
 pub use crate::datetime::gaps_and_folds::{types_of_window, window_of};
+pub use crate::datetime::utc_date_time::utc_fields_of;
 pub use crate::datetime::zone_data_searches::{find_into, from_timespec};
 pub use crate::parse::{read_digits, value_of};
 pub use crate::print::middle_of;

@@ -8,8 +8,8 @@ use Rattle.tz_base.proofs.LastSeconds.{valid_reading}
 use Rattle.tz_zone.proofs.Clocks.{last_unique, one_type, some_from_last}
 use Rattle.tz_zone.proofs.LeapTimes.{one_leap_time}
 use Rattle.tz.specs.Meanings.{IsMeaning, IsMeaningFault, instant_meant}
-use Rattle.tz.specs.Plain.{date_time_data, date_time_of}
-use Rattle.tz.specs.declared.datetime.date_time.DateTimeData.{DateTimeData}
+use Rattle.tz_c.specs.DateTimeData.{date_time_data, date_time_of}
+use Rattle.tz_c.specs.declared.date_time_data.DateTimeData.{DateTimeData}
 use Rattle.tz.specs.declared.datetime.found.FoundDateTimeKind.TheVariants.{Normal, Skipped}
 use Rattle.tz.proofs.UniqueMeanings.{meaning_fault_unique, meaning_or_fault, meaning_unique}
 use Rattle.tz.proofs.UniqueResults.{clock_fault_unique, no_fault_where_shown, shown_unique}

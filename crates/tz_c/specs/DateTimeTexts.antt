@@ -1,11 +1,11 @@
 -- What the reader of printed date times answers, and the code of each part that it can miss.
 use Rattle.std.specs.Prelude.{◌≡◌, ◌⊎◌, ℕ, false, pos, List, Some, None, if◌then◌else◌}
 use Rattle.tz.specs.DateTimeText.{IsDateTimeText, IsDateTimeTextFault}
-use Rattle.tz.specs.Plain.{IsUtcData}
 use Rattle.tz.specs.declared.parse.DateTimePart.{DateTimePart}
 use Rattle.tz.specs.declared.parse.DateTimePart.TheVariants as parts
 use Rattle.tz.specs.declared.parse.ParseDateTimeError.{ParseDateTimeError}
 use Rattle.tz.specs.declared.parse.ParsedDateTime.{ParsedDateTime}
+use Rattle.tz_c.specs.DateTimeData.{IsUtcData}
 use Rattle.tz_c.specs.declared.date_times.ParsedData.{ParsedData}
 
 -- the local time and the offset that are written

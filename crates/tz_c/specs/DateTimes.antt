@@ -11,12 +11,12 @@ use Rattle.tz_zone.specs.Table.{Zone}
 use Rattle.tz.specs.DateTimes.{DateTime, IsDateTime, IsUtcTotal}
 use Rattle.tz.specs.Found.{EachCanBeMade}
 use Rattle.tz.specs.Meanings.{IsMeaning, IsMeaningFault}
-use Rattle.tz.specs.Plain.{IsUtcData, date_time_of}
 use Rattle.tz.specs.declared.datetime.disambiguation.Disambiguation.{Disambiguation}
 use Rattle.tz.specs.declared.datetime.disambiguation.Disambiguation.TheVariants.{Compatible, Earlier, Later, Reject}
-use Rattle.tz.specs.declared.datetime.date_time.UtcData.{UtcData}
-use Rattle.tz.specs.declared.datetime.date_time.DateTimeData.{DateTimeData}
 use Rattle.tz_c.specs.Codes.{code_of, no_date_time, unknown_choice}
+use Rattle.tz_c.specs.DateTimeData.{IsUtcData, date_time_of}
+use Rattle.tz_c.specs.declared.date_time_data.UtcData.{UtcData}
+use Rattle.tz_c.specs.declared.date_time_data.DateTimeData.{DateTimeData}
 
 -- the data of a date time of UTC of which something holds
 abbrev pub IsUtcDataOf : (Fields → Type 0) → UtcData → Type 0

@@ -1,6 +1,7 @@
 pub mod Codes
 pub mod Columns
 pub mod Dates
+pub mod DateTimeData
 pub mod DateTimeTexts
 pub mod DateTimes
 pub mod ErrorTexts

@@ -10,13 +10,14 @@ ghost use Rattle.tz_c.specs.ErrorTexts.{IsCodeTextAnswer, error_text, expected_t
 ghost use Rattle.tz_c.specs.Texts.{IsTextAnswer};
 ghost use Rattle.tz_c.specs.Layout.{layout};
 
+use crate::date_time_data::{DateTimeData, FoundData, UtcData};
 use crate::date_times::ParsedData;
 use crate::rule_data::RuleData;
 use crate::texts::{SettingData, write_text};
-use crate::zone_data::ZoneData;
+use crate::zone_data::TzZone;
 use crate::zones::{ChangeData, ConflictData, OffsetsData, PartsData, SegmentData};
 use std::num::{IntErrorKind, ParseIntError};
-use tz::inner::{DateTimeData, Fields, FoundData, UtcData};
+use tz::inner::Fields;
 use tz_base::error::{
     DateTimeError, LocalTimeTypeError, ParseDataError, TimeZoneError, TransitionRuleError, TzError,
     TzFileError, TzStringError,
@@ -356,7 +357,7 @@ const LAYOUT: [usize; 20] = [
     size_of::<LeapSecond>(),
     size_of::<PartsData<'static>>(),
     size_of::<OffsetsData>(),
-    size_of::<ZoneData<'static>>(),
+    size_of::<TzZone<'static>>(),
     size_of::<Fields>(),
     size_of::<UtcData>(),
     size_of::<DateTimeData>(),

@@ -14,10 +14,11 @@ ghost use Rattle.tz_c.specs.ZoneOfData.{zone_of_data};
 use crate::codes::{
     BUFFER_LENGTH, INVALID_NANOSECONDS, NO_DATE_TIME, OK, OUT_OF_RANGE, UNKNOWN_CHOICE, code_of,
 };
+use crate::date_time_data::DateTimeData;
 use crate::searches::choice_of;
-use crate::zone_data::ZoneData;
+use crate::zone_data::TzZone;
 use tz::datetime::Disambiguation;
-use tz::inner::{DateTimeData, Fields, find_one, local_reading};
+use tz::inner::{Fields, find_one, local_reading};
 use tz_base::constants::{NANOSECONDS_PER_SECOND, SECONDS_PER_DAY};
 use tz_base::error::TzError;
 use tz_rule::timezone::LocalTimeType;
@@ -26,7 +27,7 @@ use tz_zone::timezone::Segment;
 /// The segment of the zone's clock that holds an instant: the one before, if it holds the instant
 /// too.
 #[inline(always)]
-fn segment_around<'a>(zone: &ZoneData<'a>, before: Segment<'a>, unix_time: i64) -> Segment<'a>
+fn segment_around<'a>(zone: &TzZone<'a>, before: Segment<'a>, unix_time: i64) -> Segment<'a>
     requires { IsTrueSegment (zone_of_data zone.now) (segment_of before) }
     ensures segment { IsTrueSegment (zone_of_data zone.now) (segment_of result) }
     ensures within { ((segment_of result).from ≤ℤ unix_time)
@@ -42,7 +43,7 @@ fn segment_around<'a>(zone: &ZoneData<'a>, before: Segment<'a>, unix_time: i64) 
 /// The type of the zone's clock at an instant of a segment.
 #[inline(always)]
 fn type_in<'a>(
-    zone: &ZoneData<'a>,
+    zone: &TzZone<'a>,
     segment: &Segment<'a>,
     unix_time: i64,
 ) -> Result<&'a LocalTimeType, TzError>
@@ -60,7 +61,7 @@ fn type_in<'a>(
 
 /// The offset of the zone's clock at an instant of a segment.
 #[inline(always)]
-fn offset_in(zone: &ZoneData<'_>, segment: &Segment<'_>, unix_time: i64, out: &mut i32) -> u32
+fn offset_in(zone: &TzZone<'_>, segment: &Segment<'_>, unix_time: i64, out: &mut i32) -> u32
     requires segment { IsTrueSegment (zone_of_data zone.now) (segment_of segment.now) }
     requires within { ((segment_of segment.now).from ≤ℤ unix_time)
         × (unix_time ≤ℤ (segment_of segment.now).last) }
@@ -154,7 +155,7 @@ fn fields_in(day: &Day, second_of_day: u32, nanoseconds: u32) -> Fields
 /// and then that of this one.
 #[inline(always)]
 fn date_time_in(
-    zone: &ZoneData<'_>,
+    zone: &TzZone<'_>,
     segment: &Segment<'_>,
     day: &mut Day,
     unix_time: i64,
@@ -194,7 +195,7 @@ fn date_time_in(
 fn instant_of(
     fields: &Fields,
     disambiguation: Disambiguation,
-    zone: &ZoneData<'_>,
+    zone: &TzZone<'_>,
     out: &mut i64,
 ) -> u32
     ensures answer { IsInstantAnswer (zone_of_data zone.now) disambiguation fields.now result
@@ -215,7 +216,7 @@ fn instant_of(
 #[unsafe(no_mangle)]
 pub extern "C" fn tz_column_offsets(
     unix_times: &[i64],
-    zone: &ZoneData<'_>,
+    zone: &TzZone<'_>,
     offsets: &mut [i32],
     codes: &mut [u32],
 ) -> u32
@@ -245,7 +246,7 @@ pub extern "C" fn tz_column_offsets(
 pub extern "C" fn tz_column_date_times(
     unix_times: &[i64],
     nanoseconds: &[u32],
-    zone: &ZoneData<'_>,
+    zone: &TzZone<'_>,
     date_times: &mut [DateTimeData],
     codes: &mut [u32],
 ) -> u32
@@ -288,7 +289,7 @@ pub extern "C" fn tz_column_date_times(
 pub extern "C" fn tz_column_instants(
     fields: &[Fields],
     choice: u8,
-    zone: &ZoneData<'_>,
+    zone: &TzZone<'_>,
     unix_times: &mut [i64],
     codes: &mut [u32],
 ) -> u32

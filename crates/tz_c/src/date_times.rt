@@ -11,9 +11,10 @@ ghost use Rattle.tz_c.specs.DateTimeTexts.{IsParsedAnswer, part_code};
 ghost use Rattle.tz_c.specs.ZoneOfData.{zone_of_data};
 
 use crate::codes::{INVALID_NANOSECONDS, OK, OUT_OF_RANGE, code_of};
-use crate::zone_data::ZoneData;
+use crate::date_time_data::{DateTimeData, UtcData};
+use crate::zone_data::TzZone;
 use std::time::Duration;
-use tz::inner::{DateTimeData, Fields, UtcData, local_reading};
+use tz::inner::{Fields, local_reading};
 use tz::{DateTime, DateTimePart, ParsedDateTime, UtcDateTime};
 use tz_base::constants::NANOSECONDS_PER_SECOND;
 use tz_rule::timezone::LocalTimeType;
@@ -76,7 +77,7 @@ pub extern "C" fn tz_date_time_from_timespec_and_local(
 pub extern "C" fn tz_date_time_from_timespec(
     unix_time: i64,
     nanoseconds: u32,
-    zone: &ZoneData<'_>,
+    zone: &TzZone<'_>,
     out: &mut DateTimeData,
 ) -> u32
     ensures answer { IsAnswer result

@@ -9,7 +9,7 @@ ghost use Rattle.tz_c.specs.Dates.{HasWeekDate, IsMonthsFault, IsStartAnswer, Is
 ghost use Rattle.tz_c.specs.ZoneOfData.{zone_of_data};
 
 use crate::codes::{NO_DATE_TIME, OK, OUT_OF_RANGE, code_of};
-use crate::zone_data::ZoneData;
+use crate::zone_data::TzZone;
 use tz_base::error::TzError;
 use tz_civil::inner::{first_of_day, parts_of};
 use tz_civil::{Date, WeekDate};
@@ -49,7 +49,7 @@ fn checked(date: &DateData) -> Result<Date, TzError>
 /// returns its date time.
 #[unsafe(no_mangle)]
 pub extern "C" fn tz_zone_start_of_day(
-    zone: &ZoneData<'_>,
+    zone: &TzZone<'_>,
     date: &DateData,
     unix_time: &mut i64,
 ) -> u32

@@ -8,11 +8,12 @@ ghost use Rattle.std.specs.Prelude.{◌≡◌, ◌≢◌, ◌<◌, FitsSigned, S
 ghost use Rattle.tz_c.specs.Columns.{AreOfLength};
 
 use crate::columns::{tz_column_date_times, tz_column_instants, tz_column_offsets};
+use crate::date_time_data::DateTimeData;
 use crate::date_times::tz_date_time_from_timespec;
 use crate::searches::tz_find_one;
-use crate::zone_data::ZoneData;
+use crate::zone_data::TzZone;
 use crate::zones::tz_zone_type_at;
-use tz::inner::{DateTimeData, Fields};
+use tz::inner::Fields;
 use tz_rule::timezone::LocalTimeType;
 
 /// The year of a date time that is written fits 32 bits.
@@ -26,7 +27,7 @@ fn year_fits(date_time: &DateTimeData)
 /// writes.
 pub fn offsets_are_single_calls(
     unix_times: &[i64],
-    zone: &ZoneData<'_>,
+    zone: &TzZone<'_>,
     offsets: &mut [i32],
     codes: &mut [u32],
     index: usize,
@@ -48,7 +49,7 @@ pub fn offsets_are_single_calls(
 pub fn date_times_are_single_calls(
     unix_times: &[i64],
     nanoseconds: &[u32],
-    zone: &ZoneData<'_>,
+    zone: &TzZone<'_>,
     date_times: &mut [DateTimeData],
     codes: &mut [u32],
     index: usize,
@@ -73,7 +74,7 @@ pub fn date_times_are_single_calls(
 pub fn instants_are_single_calls(
     fields: &[Fields],
     choice: u8,
-    zone: &ZoneData<'_>,
+    zone: &TzZone<'_>,
     unix_times: &mut [i64],
     codes: &mut [u32],
     index: usize,

@@ -4,6 +4,7 @@
 
 mod codes;
 mod columns;
+mod date_time_data;
 mod date_times;
 mod dates;
 mod formats;

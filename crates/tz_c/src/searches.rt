@@ -2,24 +2,26 @@
 
 ghost use Rattle.std.specs.Prelude.{◌≡◌, ◌≢◌, List, length};
 ghost use Rattle.tz_zone.specs.Clock.{IsClock};
+ghost use Rattle.tz.specs.Buffers.{placed};
 ghost use Rattle.tz.specs.FindFaults.{IsFindFault};
 ghost use Rattle.tz.specs.Found.{IsFound};
-ghost use Rattle.tz.specs.Plain.{entries_from, placed};
 ghost use Rattle.tz.specs.declared.datetime.found.FoundDateTimeKind.{FoundDateTimeKind};
 ghost use Rattle.tz_c.specs.Codes.{IsAnswer};
+ghost use Rattle.tz_c.specs.DateTimeData.{entries_from};
 ghost use Rattle.tz_c.specs.DateTimes.{CanBeSearched, IsChoiceAnswer, choice_of};
 ghost use Rattle.tz_c.specs.ZoneOfData.{zone_of_data};
 
 use crate::codes::{NO_DATE_TIME, OK, UNKNOWN_CHOICE, code_of};
-use crate::zone_data::ZoneData;
+use crate::date_time_data::{DateTimeData, FoundData};
+use crate::zone_data::TzZone;
 use tz::datetime::Disambiguation;
-use tz::inner::{DateTimeData, Fields, FoundData, find_into, find_one};
+use tz::inner::{Fields, find_into, find_one};
 
 /// What is found of the fields from one of the entries on, and how many entries there are.
 #[unsafe(no_mangle)]
 pub extern "C" fn tz_find_n(
     fields: &Fields,
-    zone: &ZoneData<'_>,
+    zone: &TzZone<'_>,
     skip: usize,
     slots: &mut [FoundData],
     count: &mut usize,
@@ -60,7 +62,7 @@ pub(crate) fn choice_of(choice: u8) -> Option<Disambiguation>
 pub extern "C" fn tz_find_one(
     fields: &Fields,
     choice: u8,
-    zone: &ZoneData<'_>,
+    zone: &TzZone<'_>,
     out: &mut DateTimeData,
 ) -> u32
     ensures answer { IsChoiceAnswer (zone_of_data zone.now) (choice_of choice) fields.now result

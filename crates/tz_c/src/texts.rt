@@ -26,7 +26,7 @@ use crate::rule_data::{RuleData, rule_of};
 use crate::zones::{OffsetsData, rule_of_lists};
 use std::alloc::Global;
 use std::str;
-use tz::inner::{TextBuffer, UtcData, fields_of};
+use tz::inner::{TextBuffer, fields_of, utc_fields_of};
 use tz::{DateTime, TzString, UtcDateTime};
 use tz_rule::inner::AlternateData;
 use tz_rule::timezone::LocalTimeType;
@@ -56,7 +56,7 @@ pub extern "C" fn tz_utc_text(utc: &UtcDateTime, text: &mut [u8], len: &mut usiz
     ensures len_kept { result ≢ 0 → len.new ≡ len.old }
 {
     let mut line = TextBuffer::new();
-    line.push_date_time(&UtcData::of(utc).fields, 0);
+    line.push_date_time(utc_fields_of(utc), 0);
     write_text(line.as_bytes(), text, len)
 }
 

@@ -11,7 +11,7 @@ use tz_zone::inner;
 /// Parts that make a zone, and its offsets.
 #[repr(C)]
 #[derive(Clone, Copy)]
-pub struct ZoneData<'a> {
+pub struct TzZone<'a> {
     pub(crate) parts: PartsData<'a>,
     offsets: OffsetsData,
     ghost sound: { IsSoundTable (zone_of_parts parts) } by { IsSoundTable-prop
@@ -20,7 +20,7 @@ pub struct ZoneData<'a> {
     ghost ends: { ∥ AreEndOffsets (zone_of_parts parts) offsets.least offsets.greatest ∥₁ },
 }
 
-impl<'a> ZoneData<'a> {
+impl<'a> TzZone<'a> {
     ghost use Rattle.tz_zone.specs.ZoneOfData.{zone_of_data as lent_zone};
     ghost use Rattle.tz_c.specs.ZoneOfData.{zone_of_data};
 

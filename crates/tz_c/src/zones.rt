@@ -27,7 +27,7 @@ ghost use Rattle.tz_c.specs.Zones.{change_written};
 use crate::codes::{
     NO_CHANGE, NO_CONFLICT, NO_RULE, OK, OUT_OF_RANGE, code_of, rule_code, type_code,
 };
-use crate::zone_data::ZoneData;
+use crate::zone_data::TzZone;
 use tz_rule::inner::{AlternateData, DayData, RuleRef, find_local_time_type};
 use tz_rule::timezone::{
     AlternateTime, Julian0WithLeap, Julian1WithoutLeap, LocalTimeType, MonthWeekDay, RuleDay,
@@ -332,11 +332,7 @@ pub extern "C" fn tz_zone_check(parts: &PartsData<'_>, out: &mut OffsetsData) ->
 
 /// The type of a zone's clock at an instant, as `TimeZoneRef::find_local_time_type` finds it.
 #[unsafe(no_mangle)]
-pub extern "C" fn tz_zone_type_at(
-    zone: &ZoneData<'_>,
-    unix_time: i64,
-    out: &mut LocalTimeType,
-) -> u32
+pub extern "C" fn tz_zone_type_at(zone: &TzZone<'_>, unix_time: i64, out: &mut LocalTimeType) -> u32
     ensures answer { IsAnswer result (IsClock (zone_of_data zone.now) unix_time out.new)
         (IsLookupFault (zone_of_data zone.now) unix_time) }
     ensures kept { result ≢ 0 → out.new ≡ out.old }
@@ -353,7 +349,7 @@ pub extern "C" fn tz_zone_type_at(
 /// The segment around an instant, as `TimeZoneRef::segment_at` finds it.
 #[unsafe(no_mangle)]
 pub extern "C" fn tz_zone_segment_at(
-    zone: &ZoneData<'_>,
+    zone: &TzZone<'_>,
     unix_time: i64,
     out: &mut SegmentData,
 ) -> u32
@@ -369,11 +365,7 @@ pub extern "C" fn tz_zone_segment_at(
 
 /// The first change after an instant, as `TimeZoneRef::following` finds it.
 #[unsafe(no_mangle)]
-pub extern "C" fn tz_zone_following(
-    zone: &ZoneData<'_>,
-    unix_time: i64,
-    out: &mut ChangeData,
-) -> u32
+pub extern "C" fn tz_zone_following(zone: &TzZone<'_>, unix_time: i64, out: &mut ChangeData) -> u32
     ensures answer { IsAnswerOr result no_change (IsFollowing (zone_of_data zone.now) unix_time
         (change_written out.new)) (HasNoFollowing (zone_of_data zone.now) unix_time) }
     ensures kept { result ≢ 0 → out.new ≡ out.old }
@@ -389,11 +381,7 @@ pub extern "C" fn tz_zone_following(
 
 /// The last change before an instant, as `TimeZoneRef::preceding` finds it.
 #[unsafe(no_mangle)]
-pub extern "C" fn tz_zone_preceding(
-    zone: &ZoneData<'_>,
-    unix_time: i64,
-    out: &mut ChangeData,
-) -> u32
+pub extern "C" fn tz_zone_preceding(zone: &TzZone<'_>, unix_time: i64, out: &mut ChangeData) -> u32
     ensures answer { IsAnswerOr result no_change (IsPreceding (zone_of_data zone.now) unix_time
         (change_written out.new)) (HasNoPreceding (zone_of_data zone.now) unix_time) }
     ensures kept { result ≢ 0 → out.new ≡ out.old }
@@ -433,7 +421,7 @@ fn index_in_rule(rule: Option<RuleRef<'_>>, local_time_type: &LocalTimeType) -> 
 }
 
 /// The first index of one of a zone's types among those of its list and of its rule.
-fn index_of(zone: &ZoneData<'_>, local_time_type: &LocalTimeType) -> usize
+fn index_of(zone: &TzZone<'_>, local_time_type: &LocalTimeType) -> usize
     requires { Stands (zone_of_data zone.now).types local_time_type.now
         ⊎ Stands (rule_types (zone_of_data zone.now).extra_rule) local_time_type.now }
     ensures { let z = zone_of_data zone.now in
@@ -448,7 +436,7 @@ fn index_of(zone: &ZoneData<'_>, local_time_type: &LocalTimeType) -> usize
 
 /// The index of the type of a zone's clock at an instant.
 #[unsafe(no_mangle)]
-pub extern "C" fn tz_zone_place_at(zone: &ZoneData<'_>, unix_time: i64, out: &mut usize) -> u32
+pub extern "C" fn tz_zone_place_at(zone: &TzZone<'_>, unix_time: i64, out: &mut usize) -> u32
     ensures answer { IsAnswer result (IsClockIndex (zone_of_data zone.now) unix_time out.new)
         (IsLookupFault (zone_of_data zone.now) unix_time) }
     ensures kept { result ≢ 0 → out.new ≡ out.old }
@@ -464,7 +452,7 @@ pub extern "C" fn tz_zone_place_at(zone: &ZoneData<'_>, unix_time: i64, out: &mu
 
 /// The leap time of an instant.
 #[unsafe(no_mangle)]
-pub extern "C" fn tz_zone_leap_time(zone: &ZoneData<'_>, unix_time: i64, out: &mut i64) -> u32
+pub extern "C" fn tz_zone_leap_time(zone: &TzZone<'_>, unix_time: i64, out: &mut i64) -> u32
     ensures answer { IsAnswer result
         (IsLeapTime (zone_of_data zone.now).leap_seconds unix_time out.new)
         (λ e. (e ≡ faults.OutOfRange) × IsLeapTimeRefused (zone_of_data zone.now).leap_seconds
@@ -482,7 +470,7 @@ pub extern "C" fn tz_zone_leap_time(zone: &ZoneData<'_>, unix_time: i64, out: &m
 
 /// The least instant at which a leap time is reached.
 #[unsafe(no_mangle)]
-pub extern "C" fn tz_zone_effect(zone: &ZoneData<'_>, leap_time: i64, out: &mut i64) -> u32
+pub extern "C" fn tz_zone_effect(zone: &TzZone<'_>, leap_time: i64, out: &mut i64) -> u32
     ensures answer { IsAnswer result
         (IsEffect (zone_of_data zone.now).leap_seconds leap_time out.new)
         (λ e. (e ≡ faults.OutOfRange) × IsEffectRefused (zone_of_data zone.now).leap_seconds

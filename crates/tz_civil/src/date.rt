@@ -10,7 +10,7 @@ mod week_dates;
 mod week_days;
 
 use std::marker::Model;
-use tz::inner::{DateTimeData, UtcData};
+use tz::inner::{fields_of, utc_fields_of};
 use tz::{DateTime, UtcDateTime};
 use tz_base::calendar::{days_in_month, days_since_unix_epoch, week_day_of_day};
 use tz_base::constants::SECONDS_PER_DAY;
@@ -114,7 +114,7 @@ impl Date {
     pub const fn of(date_time: &UtcDateTime) -> Self
         ensures { result ≡ date_of date_time.now.year date_time.now.month date_time.now.month_day }
     {
-        Date::of_fields(&UtcData::of(date_time).fields)
+        Date::of_fields(utc_fields_of(date_time))
     }
 
     /// The date that the date time's clock shows.
@@ -122,7 +122,7 @@ impl Date {
         ensures { result ≡ date_of date_time.now.fields.year date_time.now.fields.month
             date_time.now.fields.month_day }
     {
-        Date::of_fields(&DateTimeData::of(date_time).fields)
+        Date::of_fields(fields_of(date_time))
     }
 
     /// The local time at this date that a call such as [`DateTime::from_local`] takes: the hour

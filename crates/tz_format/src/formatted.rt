@@ -10,8 +10,9 @@ use crate::moment::Moment;
 use crate::pattern::{Pattern, UtcPattern};
 use crate::print::push_pattern;
 use std::fmt;
-use tz::inner::{DateTimeData, UtcData};
+use tz::inner::{fields_of, utc_fields_of};
 use tz::{DateTime, UtcDateTime};
+use tz_base::fields::Fields;
 
 /// A date time as a pattern prints it.
 #[derive(Clone, Copy, Debug)]
@@ -27,18 +28,24 @@ pub struct FormattedUtcDateTime<'a> {
     date_time: UtcDateTime,
 }
 
+/// The fields by value.
+const fn copied(fields: &Fields) -> Fields
+    ensures { result ≡ fields.now }
+{
+    *fields
+}
+
 /// What patterns print of a date time.
 fn moment_of(date_time: &DateTime) -> Moment<'_>
     ensures value { shown_of result ≡ shown_date_time date_time.now }
     ensures shown { IsShown (shown_of result) }
 {
-    let data = DateTimeData::of(date_time);
     let local_time_type = date_time.local_time_type();
     Moment {
-        fields: data.fields,
+        fields: copied(fields_of(date_time)),
         ut_offset: local_time_type.ut_offset(),
         designation: local_time_type.time_zone_designation(),
-        unix_time: data.unix_time,
+        unix_time: date_time.unix_time(),
     }
 }
 
@@ -47,12 +54,11 @@ fn moment_of_utc(date_time: &UtcDateTime) -> Moment<'static>
     ensures value { shown_of result ≡ shown_utc date_time.now }
     ensures shown { IsShown (shown_of result) }
 {
-    let data = UtcData::of(date_time);
     Moment {
-        fields: data.fields,
+        fields: copied(utc_fields_of(date_time)),
         ut_offset: 0,
         designation: "UTC",
-        unix_time: data.unix_time,
+        unix_time: date_time.unix_time(),
     }
 }
 

@@ -3,12 +3,9 @@
 ghost use Rattle.std.specs.Prelude.{◌≡◌};
 ghost use Rattle.tz_base.specs.Fields.{IsValid};
 ghost use Rattle.tz.specs.DateTimes.{IsDateTime};
-ghost use Rattle.tz.specs.Plain.{IsUtcData, date_time_data};
 
-use super::entry_takers::Slot;
 use super::utc_date_time::duration_between;
 use super::zone_data_searches::from_timespec;
-use super::{FoundDateTimeKind, UtcDateTime};
 use crate::text_buffer::TextBuffer;
 use std::cmp::Ordering;
 use std::fmt;
@@ -525,83 +522,10 @@ impl fmt::Display for DateTime {
 }
 
 /// The fields of a date time, which are valid.
-pub fn fields_of(date_time: &DateTime) -> &Fields
+pub const fn fields_of(date_time: &DateTime) -> &Fields
     ensures fields { result.now ≡ date_time.now.fields }
     ensures valid { IsValid result.now }
+    ensures sound { IsDateTime date_time.now }
 {
     date_time.fields()
-}
-
-/// The data of a [`UtcDateTime`], laid out as that is.
-#[repr(C)]
-#[derive(Clone, Copy)]
-pub struct UtcData {
-    /// The fields.
-    pub fields: Fields,
-    /// Their reading.
-    pub unix_time: i64,
-}
-
-/// The data of a [`DateTime`], laid out as that is.
-#[repr(C)]
-#[derive(Clone, Copy)]
-pub struct DateTimeData {
-    /// The fields.
-    pub fields: Fields,
-    /// The type that shows them.
-    pub local_time_type: LocalTimeType,
-    /// Its Unix time.
-    pub unix_time: i64,
-}
-
-/// The data of a [`FoundDateTimeKind`].
-#[repr(C)]
-#[derive(Clone, Copy)]
-pub struct FoundData {
-    /// Whether the clock was set forward over the date time.
-    pub is_skipped: bool,
-    /// The date time, or the one before the jump.
-    pub before: DateTimeData,
-    /// The date time, or the one after the jump.
-    pub after: DateTimeData,
-}
-
-impl UtcData {
-    /// The data of a date time.
-    pub const fn of(date_time: &UtcDateTime) -> Self
-        ensures fields { result.fields ≡ date_time.now }
-        ensures value { IsUtcData result }
-    {
-        UtcData {
-            fields: *date_time.fields(),
-            unix_time: date_time.unix_time(),
-        }
-    }
-}
-
-impl DateTimeData {
-    /// The data of a date time.
-    pub const fn of(date_time: &DateTime) -> Self
-        ensures value { result ≡ date_time_data date_time.now }
-        ensures sound { IsDateTime date_time.now }
-    {
-        DateTimeData {
-            fields: *date_time.fields(),
-            local_time_type: *date_time.local_time_type(),
-            unix_time: date_time.unix_time(),
-        }
-    }
-}
-
-impl Slot for FoundData {
-    ghost use Rattle.tz.specs.Plain.{found_data};
-
-    ghost holding = { found_data };
-
-    fn set(&mut self, found: &FoundDateTimeKind) {
-        let (before, after) = found.sides();
-        self.is_skipped = matches!(found, FoundDateTimeKind::Skipped { .. });
-        self.before = DateTimeData::of(before);
-        self.after = DateTimeData::of(after);
-    }
 }

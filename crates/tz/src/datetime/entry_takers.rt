@@ -110,7 +110,7 @@ impl<'a, L: DateTimeList> EntryTaker<'a> for Dated<'_, L> {
 }
 
 /// What holds one entry of a list.
-pub(crate) trait Slot {
+pub trait Slot {
     ghost use Rattle.std.specs.Prelude.{◌≡◌};
     ghost use Rattle.tz.specs.declared.datetime.found.FoundDateTimeKind.{FoundDateTimeKind};
 

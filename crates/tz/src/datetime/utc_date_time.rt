@@ -1,10 +1,10 @@
 //! Date times of UTC; date times moved by durations, and durations between totals.
 
-ghost use Rattle.std.specs.Prelude.{MatchBool, ◌<◌, ◌↔◌, pos, negsuc, ◌^◌, ◌+ℤ◌, ◌-ℤ◌, ◌≤ℤ◌, IfOk};
+ghost use Rattle.std.specs.Prelude.{◌≡◌, MatchBool, ◌<◌, ◌↔◌, pos, negsuc, ◌^◌, ◌+ℤ◌, ◌-ℤ◌, ◌≤ℤ◌, IfOk};
 ghost use Rattle.std.specs.Prelude.{IfErr, IsSome, IfSome};
 ghost use Rattle.std.specs.Duration.{as_nanos};
 ghost use Rattle.tz_base.specs.Fields.{IsReading, IsTimespec, total_nanoseconds_of};
-ghost use Rattle.tz.specs.DateTimes.{IsPastTheEnd, IsUtcTotal, IsNearTotal, IsForwards};
+ghost use Rattle.tz.specs.DateTimes.{IsPastTheEnd, IsUtc, IsUtcTotal, IsNearTotal, IsForwards};
 ghost use Rattle.tz.specs.DateTimes.{IsBackwards};
 
 use super::DateTime;
@@ -577,6 +577,14 @@ impl fmt::Display for UtcDateTime {
         line.push_date_time(&self.fields, 0);
         f.write_str(line.as_str())
     }
+}
+
+/// The fields of a date time of UTC, which are valid.
+pub const fn utc_fields_of(date_time: &UtcDateTime) -> &Fields
+    ensures fields { result.now ≡ date_time.now }
+    ensures sound { IsUtc date_time.now }
+{
+    date_time.fields()
 }
 
 /// The seconds of the total, rounded down, and the nanoseconds that remain, if the seconds are

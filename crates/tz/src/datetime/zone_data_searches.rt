@@ -1,18 +1,17 @@
 //! Date times and searches in zones of plain data.
 
-ghost use Rattle.std.specs.Prelude.{◌≡◌, List, length, IfOk, IfErr, OnOk};
+ghost use Rattle.std.specs.Prelude.{◌≡◌, List, drop, length, map, IfOk, IfErr, OnOk};
 ghost use Rattle.tz_base.specs.Fields.{IsReading, IsValid, reading};
 ghost use Rattle.tz_zone.specs.Clock.{IsClock};
 ghost use Rattle.tz_zone.specs.ZoneOfData.{zone_of_data};
+ghost use Rattle.tz.specs.Buffers.{placed};
 ghost use Rattle.tz.specs.DateTimes.{ShowsByClock, IsClockFault};
 ghost use Rattle.tz.specs.FindFaults.{IsFindFault, IsSearchFault};
 ghost use Rattle.tz.specs.Found.{EachCanBeMade, IsFound};
-ghost use Rattle.tz.specs.Plain.{entries_from, placed};
 ghost use Rattle.tz.specs.declared.datetime.found.FoundDateTimeKind.{FoundDateTimeKind};
 
-use super::date_time::FoundData;
 use super::disambiguation::meant_in;
-use super::entry_takers::SlotWriter;
+use super::entry_takers::{Slot, SlotWriter};
 use super::gaps_and_folds::search;
 use super::{DateTime, Disambiguation};
 use tz_base::constants::NANOSECONDS_PER_SECOND;
@@ -65,15 +64,16 @@ fn check_entries(fields: &Fields, zone: &ZoneData<'_>) -> Result<(), TzError>
 
 /// Writes the entries for the fields, from one of them on, to the slots, as far as they go, and
 /// counts all.
-pub fn find_into(
-    slots: &mut [FoundData],
+pub fn find_into<S: Slot>(
+    slots: &mut [S],
     skip: usize,
     fields: &Fields,
     zone: &ZoneData<'_>,
 ) -> Result<usize, TzError>
     ensures ok { IfOk result (λ count. (found : List FoundDateTimeKind)
         × IsFound (IsClock (zone_of_data zone.now)) fields.now found
-        × (count ≡ length found) × (slots.new ≡ placed slots.old (entries_from skip found))) }
+        × (count ≡ length found)
+        × (slots.new ≡ placed slots.old (map S.holding (drop skip found)))) }
     ensures valid { OnOk result (IsValid fields.now) }
     ensures made { OnOk result (EachCanBeMade (IsClock (zone_of_data zone.now)) fields.now) }
     ensures kept { IfErr result (λ _. slots.new ≡ slots.old) }

@@ -1,13 +1,14 @@
 // Generated from crates/tz_c/src/codes.rt by bindings/erase: its contracts are cut. Change that file instead.
 //! The codes of errors and their texts, and the layout of structures.
 
+use crate::proved::tz_c::date_time_data::{DateTimeData, FoundData, UtcData};
 use crate::proved::tz_c::date_times::ParsedData;
 use crate::proved::tz_c::rule_data::RuleData;
 use crate::proved::tz_c::texts::{SettingData, write_text};
-use crate::proved::tz_c::zone_data::ZoneData;
+use crate::proved::tz_c::zone_data::TzZone;
 use crate::proved::tz_c::zones::{ChangeData, ConflictData, OffsetsData, PartsData, SegmentData};
 use core::num::{IntErrorKind, ParseIntError};
-use tz::proved::tz::inner::{DateTimeData, Fields, FoundData, UtcData};
+use tz::proved::tz::inner::Fields;
 use tz::proved::tz_base::error::{
     DateTimeError, LocalTimeTypeError, ParseDataError, TimeZoneError, TransitionRuleError, TzError,
     TzFileError, TzStringError,
@@ -318,7 +319,7 @@ const LAYOUT: [usize; 20] = [
     size_of::<LeapSecond>(),
     size_of::<PartsData<'static>>(),
     size_of::<OffsetsData>(),
-    size_of::<ZoneData<'static>>(),
+    size_of::<TzZone<'static>>(),
     size_of::<Fields>(),
     size_of::<UtcData>(),
     size_of::<DateTimeData>(),

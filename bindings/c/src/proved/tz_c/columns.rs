@@ -4,10 +4,11 @@
 use crate::proved::tz_c::codes::{
     BUFFER_LENGTH, INVALID_NANOSECONDS, NO_DATE_TIME, OK, OUT_OF_RANGE, UNKNOWN_CHOICE, code_of,
 };
+use crate::proved::tz_c::date_time_data::DateTimeData;
 use crate::proved::tz_c::searches::choice_of;
-use crate::proved::tz_c::zone_data::ZoneData;
+use crate::proved::tz_c::zone_data::TzZone;
 use tz::proved::tz::datetime::Disambiguation;
-use tz::proved::tz::inner::{DateTimeData, Fields, find_one, local_reading};
+use tz::proved::tz::inner::{Fields, find_one, local_reading};
 use tz::proved::tz_base::constants::{NANOSECONDS_PER_SECOND, SECONDS_PER_DAY};
 use tz::proved::tz_base::error::TzError;
 use tz::proved::tz_rule::timezone::LocalTimeType;
@@ -16,7 +17,7 @@ use tz::proved::tz_zone::timezone::Segment;
 /// The segment of the zone's clock that holds an instant: the one before, if it holds the instant
 /// too.
 #[inline(always)]
-fn segment_around<'a>(zone: &ZoneData<'a>, before: Segment<'a>, unix_time: i64) -> Segment<'a> {
+fn segment_around<'a>(zone: &TzZone<'a>, before: Segment<'a>, unix_time: i64) -> Segment<'a> {
     if before.contains(unix_time) {
         before
     } else {
@@ -27,7 +28,7 @@ fn segment_around<'a>(zone: &ZoneData<'a>, before: Segment<'a>, unix_time: i64) 
 /// The type of the zone's clock at an instant of a segment.
 #[inline(always)]
 fn type_in<'a>(
-    zone: &ZoneData<'a>,
+    zone: &TzZone<'a>,
     segment: &Segment<'a>,
     unix_time: i64,
 ) -> Result<&'a LocalTimeType, TzError> {
@@ -39,7 +40,7 @@ fn type_in<'a>(
 
 /// The offset of the zone's clock at an instant of a segment.
 #[inline(always)]
-fn offset_in(zone: &ZoneData<'_>, segment: &Segment<'_>, unix_time: i64, out: &mut i32) -> u32 {
+fn offset_in(zone: &TzZone<'_>, segment: &Segment<'_>, unix_time: i64, out: &mut i32) -> u32 {
     match type_in(zone, segment, unix_time) {
         Ok(local_time_type) => {
             *out = local_time_type.ut_offset();
@@ -105,7 +106,7 @@ fn fields_in(day: &Day, second_of_day: u32, nanoseconds: u32) -> Fields {
 /// and then that of this one.
 #[inline(always)]
 fn date_time_in(
-    zone: &ZoneData<'_>,
+    zone: &TzZone<'_>,
     segment: &Segment<'_>,
     day: &mut Day,
     unix_time: i64,
@@ -135,7 +136,7 @@ fn date_time_in(
 fn instant_of(
     fields: &Fields,
     disambiguation: Disambiguation,
-    zone: &ZoneData<'_>,
+    zone: &TzZone<'_>,
     out: &mut i64,
 ) -> u32 {
     match find_one(fields, disambiguation, &zone.lent()) {
@@ -152,7 +153,7 @@ fn instant_of(
 #[inline(always)]
 pub fn tz_column_offsets(
     unix_times: &[i64],
-    zone: &ZoneData<'_>,
+    zone: &TzZone<'_>,
     offsets: &mut [i32],
     codes: &mut [u32],
 ) -> u32 {
@@ -174,7 +175,7 @@ pub fn tz_column_offsets(
 pub fn tz_column_date_times(
     unix_times: &[i64],
     nanoseconds: &[u32],
-    zone: &ZoneData<'_>,
+    zone: &TzZone<'_>,
     date_times: &mut [DateTimeData],
     codes: &mut [u32],
 ) -> u32 {
@@ -207,7 +208,7 @@ pub fn tz_column_date_times(
 pub fn tz_column_instants(
     fields: &[Fields],
     choice: u8,
-    zone: &ZoneData<'_>,
+    zone: &TzZone<'_>,
     unix_times: &mut [i64],
     codes: &mut [u32],
 ) -> u32 {

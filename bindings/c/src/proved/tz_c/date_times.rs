@@ -2,9 +2,10 @@
 //! Date times of a zone and of UTC, and their texts.
 
 use crate::proved::tz_c::codes::{INVALID_NANOSECONDS, OK, OUT_OF_RANGE, code_of};
-use crate::proved::tz_c::zone_data::ZoneData;
+use crate::proved::tz_c::date_time_data::{DateTimeData, UtcData};
+use crate::proved::tz_c::zone_data::TzZone;
 use core::time::Duration;
-use tz::proved::tz::inner::{DateTimeData, Fields, UtcData, local_reading};
+use tz::proved::tz::inner::{Fields, local_reading};
 use tz::proved::tz::{DateTime, DateTimePart, ParsedDateTime, UtcDateTime};
 use tz::proved::tz_base::constants::NANOSECONDS_PER_SECOND;
 use tz::proved::tz_rule::timezone::LocalTimeType;
@@ -56,7 +57,7 @@ pub fn tz_date_time_from_timespec_and_local(
 pub fn tz_date_time_from_timespec(
     unix_time: i64,
     nanoseconds: u32,
-    zone: &ZoneData<'_>,
+    zone: &TzZone<'_>,
     out: &mut DateTimeData,
 ) -> u32 {
     if nanoseconds >= NANOSECONDS_PER_SECOND {

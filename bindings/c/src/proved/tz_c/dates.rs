@@ -2,7 +2,7 @@
 //! Dates: when they begin in a zone, months later, and week dates.
 
 use crate::proved::tz_c::codes::{NO_DATE_TIME, OK, OUT_OF_RANGE, code_of};
-use crate::proved::tz_c::zone_data::ZoneData;
+use crate::proved::tz_c::zone_data::TzZone;
 use tz::proved::tz_base::error::TzError;
 use tz::proved::tz_civil::inner::{first_of_day, parts_of};
 use tz::proved::tz_civil::{Date, WeekDate};
@@ -34,7 +34,7 @@ fn checked(date: &DateData) -> Result<Date, TzError> {
 /// The least instant at which the zone's clock shows a date, at which `TimeZoneRef::start_of_day`
 /// returns its date time.
 #[inline(always)]
-pub fn tz_zone_start_of_day(zone: &ZoneData<'_>, date: &DateData, unix_time: &mut i64) -> u32 {
+pub fn tz_zone_start_of_day(zone: &TzZone<'_>, date: &DateData, unix_time: &mut i64) -> u32 {
     let date = match checked(date) {
         Ok(date) => date,
         Err(error) => return code_of(&error),

@@ -2,15 +2,16 @@
 //! Searches for date times.
 
 use crate::proved::tz_c::codes::{NO_DATE_TIME, OK, UNKNOWN_CHOICE, code_of};
-use crate::proved::tz_c::zone_data::ZoneData;
+use crate::proved::tz_c::date_time_data::{DateTimeData, FoundData};
+use crate::proved::tz_c::zone_data::TzZone;
 use tz::proved::tz::datetime::Disambiguation;
-use tz::proved::tz::inner::{DateTimeData, Fields, FoundData, find_into, find_one};
+use tz::proved::tz::inner::{Fields, find_into, find_one};
 
 /// What is found of the fields from one of the entries on, and how many entries there are.
 #[inline(always)]
 pub fn tz_find_n(
     fields: &Fields,
-    zone: &ZoneData<'_>,
+    zone: &TzZone<'_>,
     skip: usize,
     slots: &mut [FoundData],
     count: &mut usize,
@@ -37,12 +38,7 @@ pub(crate) fn choice_of(choice: u8) -> Option<Disambiguation> {
 
 /// The one date time that the fields mean by a choice.
 #[inline(always)]
-pub fn tz_find_one(
-    fields: &Fields,
-    choice: u8,
-    zone: &ZoneData<'_>,
-    out: &mut DateTimeData,
-) -> u32 {
+pub fn tz_find_one(fields: &Fields, choice: u8, zone: &TzZone<'_>, out: &mut DateTimeData) -> u32 {
     let Some(disambiguation) = choice_of(choice) else {
         return UNKNOWN_CHOICE;
     };

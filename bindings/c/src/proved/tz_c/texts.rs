@@ -7,7 +7,7 @@ use crate::proved::tz_c::codes::{
 use crate::proved::tz_c::rule_data::{RuleData, rule_of};
 use crate::proved::tz_c::zones::{OffsetsData, rule_of_lists};
 use core::str;
-use tz::proved::tz::inner::{TextBuffer, UtcData, fields_of};
+use tz::proved::tz::inner::{TextBuffer, fields_of, utc_fields_of};
 use tz::proved::tz::{DateTime, TzString, UtcDateTime};
 use tz::proved::tz_rule::inner::AlternateData;
 use tz::proved::tz_rule::timezone::LocalTimeType;
@@ -29,7 +29,7 @@ pub(crate) fn write_text(given: &[u8], text: &mut [u8], len: &mut usize) -> u32 
 #[inline(always)]
 pub fn tz_utc_text(utc: &UtcDateTime, text: &mut [u8], len: &mut usize) -> u32 {
     let mut line = TextBuffer::new();
-    line.push_date_time(&UtcData::of(utc).fields, 0);
+    line.push_date_time(utc_fields_of(utc), 0);
     write_text(line.as_bytes(), text, len)
 }
 

@@ -7,12 +7,12 @@ use tz::proved::tz_zone::inner;
 /// Parts that make a zone, and its offsets.
 #[repr(C)]
 #[derive(Clone, Copy)]
-pub struct ZoneData<'a> {
+pub struct TzZone<'a> {
     pub parts: PartsData<'a>,
     pub offsets: OffsetsData,
 }
 
-impl<'a> ZoneData<'a> {
+impl<'a> TzZone<'a> {
     /// The zone as calls of the library take it.
     pub(crate) fn lent(&self) -> inner::ZoneData<'a> {
         inner::ZoneData::from_valid_parts(

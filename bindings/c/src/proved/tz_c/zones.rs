@@ -4,7 +4,7 @@
 use crate::proved::tz_c::codes::{
     NO_CHANGE, NO_CONFLICT, NO_RULE, OK, OUT_OF_RANGE, code_of, rule_code, type_code,
 };
-use crate::proved::tz_c::zone_data::ZoneData;
+use crate::proved::tz_c::zone_data::TzZone;
 use tz::proved::tz_rule::inner::{AlternateData, DayData, RuleRef, find_local_time_type};
 use tz::proved::tz_rule::timezone::{
     AlternateTime, Julian0WithLeap, Julian1WithoutLeap, LocalTimeType, MonthWeekDay, RuleDay,
@@ -260,7 +260,7 @@ pub fn tz_zone_check(parts: &PartsData<'_>, out: &mut OffsetsData) -> u32 {
 
 /// The type of a zone's clock at an instant, as `TimeZoneRef::find_local_time_type` finds it.
 #[inline(always)]
-pub fn tz_zone_type_at(zone: &ZoneData<'_>, unix_time: i64, out: &mut LocalTimeType) -> u32 {
+pub fn tz_zone_type_at(zone: &TzZone<'_>, unix_time: i64, out: &mut LocalTimeType) -> u32 {
     match zone.lent().find_local_time_type(unix_time) {
         Ok(local_time_type) => {
             *out = *local_time_type;
@@ -272,14 +272,14 @@ pub fn tz_zone_type_at(zone: &ZoneData<'_>, unix_time: i64, out: &mut LocalTimeT
 
 /// The segment around an instant, as `TimeZoneRef::segment_at` finds it.
 #[inline(always)]
-pub fn tz_zone_segment_at(zone: &ZoneData<'_>, unix_time: i64, out: &mut SegmentData) -> u32 {
+pub fn tz_zone_segment_at(zone: &TzZone<'_>, unix_time: i64, out: &mut SegmentData) -> u32 {
     *out = SegmentData::of(&zone.lent().segment_at(unix_time));
     OK
 }
 
 /// The first change after an instant, as `TimeZoneRef::following` finds it.
 #[inline(always)]
-pub fn tz_zone_following(zone: &ZoneData<'_>, unix_time: i64, out: &mut ChangeData) -> u32 {
+pub fn tz_zone_following(zone: &TzZone<'_>, unix_time: i64, out: &mut ChangeData) -> u32 {
     match zone.lent().following(unix_time) {
         Some(change) => {
             *out = ChangeData::of(&change);
@@ -291,7 +291,7 @@ pub fn tz_zone_following(zone: &ZoneData<'_>, unix_time: i64, out: &mut ChangeDa
 
 /// The last change before an instant, as `TimeZoneRef::preceding` finds it.
 #[inline(always)]
-pub fn tz_zone_preceding(zone: &ZoneData<'_>, unix_time: i64, out: &mut ChangeData) -> u32 {
+pub fn tz_zone_preceding(zone: &TzZone<'_>, unix_time: i64, out: &mut ChangeData) -> u32 {
     match zone.lent().preceding(unix_time) {
         Some(change) => {
             *out = ChangeData::of(&change);
@@ -327,7 +327,7 @@ fn index_in_rule(rule: Option<RuleRef<'_>>, local_time_type: &LocalTimeType) -> 
 }
 
 /// The first index of one of a zone's types among those of its list and of its rule.
-fn index_of(zone: &ZoneData<'_>, local_time_type: &LocalTimeType) -> usize {
+fn index_of(zone: &TzZone<'_>, local_time_type: &LocalTimeType) -> usize {
     let types = zone.parts.local_time_types;
     match index_in(types, local_time_type) {
         Some(index) => index,
@@ -337,7 +337,7 @@ fn index_of(zone: &ZoneData<'_>, local_time_type: &LocalTimeType) -> usize {
 
 /// The index of the type of a zone's clock at an instant.
 #[inline(always)]
-pub fn tz_zone_place_at(zone: &ZoneData<'_>, unix_time: i64, out: &mut usize) -> u32 {
+pub fn tz_zone_place_at(zone: &TzZone<'_>, unix_time: i64, out: &mut usize) -> u32 {
     match zone.lent().find_local_time_type(unix_time) {
         Ok(local_time_type) => {
             *out = index_of(zone, local_time_type);
@@ -349,7 +349,7 @@ pub fn tz_zone_place_at(zone: &ZoneData<'_>, unix_time: i64, out: &mut usize) ->
 
 /// The leap time of an instant.
 #[inline(always)]
-pub fn tz_zone_leap_time(zone: &ZoneData<'_>, unix_time: i64, out: &mut i64) -> u32 {
+pub fn tz_zone_leap_time(zone: &TzZone<'_>, unix_time: i64, out: &mut i64) -> u32 {
     match leap(zone.parts.leap_seconds, unix_time) {
         Ok(leap_time) => {
             *out = leap_time;
@@ -361,7 +361,7 @@ pub fn tz_zone_leap_time(zone: &ZoneData<'_>, unix_time: i64, out: &mut i64) -> 
 
 /// The least instant at which a leap time is reached.
 #[inline(always)]
-pub fn tz_zone_effect(zone: &ZoneData<'_>, leap_time: i64, out: &mut i64) -> u32 {
+pub fn tz_zone_effect(zone: &TzZone<'_>, leap_time: i64, out: &mut i64) -> u32 {
     match effect(zone.parts.leap_seconds, leap_time) {
         Ok(unix_time) => {
             *out = unix_time;

@@ -1,17 +1,18 @@
 // Generated from crates/tz/src/inner.rt by bindings/erase: its contracts are cut. Change that file instead.
 //! For the crates above and their tests, and no part of the public surface: fields, text, the
-//! search for them, date times as plain data, and how bytes are read.
+//! search for them, the slots that it fills, and how bytes are read.
 
-pub use crate::proved::tz::datetime::date_time::{DateTimeData, UtcData};
-#[cfg(feature = "inner")]
-pub use crate::proved::tz::datetime::date_time::{FoundData, fields_of};
+pub use crate::proved::tz::datetime::date_time::fields_of;
 #[cfg(feature = "inner")]
 pub use crate::proved::tz::datetime::disambiguation::find_one;
+#[cfg(feature = "inner")]
+pub use crate::proved::tz::datetime::entry_takers::Slot;
 #[cfg(feature = "alloc")]
 pub use crate::proved::tz::datetime::find::find_fields;
 pub use crate::proved::tz::datetime::gaps_and_folds::types_of_window;
 #[cfg(feature = "inner")]
 pub use crate::proved::tz::datetime::gaps_and_folds::window_of;
+pub use crate::proved::tz::datetime::utc_date_time::utc_fields_of;
 #[cfg(feature = "inner")]
 pub use crate::proved::tz::datetime::zone_data_searches::{find_into, from_timespec};
 #[cfg(feature = "inner")]

@@ -7,7 +7,7 @@ mod text;
 mod week_dates;
 mod week_days;
 
-use crate::proved::tz::inner::{DateTimeData, UtcData};
+use crate::proved::tz::inner::{fields_of, utc_fields_of};
 use crate::proved::tz::{DateTime, UtcDateTime};
 use crate::proved::tz_base::calendar::{days_in_month, days_since_unix_epoch, week_day_of_day};
 use crate::proved::tz_base::constants::SECONDS_PER_DAY;
@@ -82,13 +82,13 @@ impl Date {
     #[doc(hidden)]
     #[must_use]
     pub const fn of(date_time: &UtcDateTime) -> Self {
-        Date::of_fields(&UtcData::of(date_time).fields)
+        Date::of_fields(utc_fields_of(date_time))
     }
 
     #[doc(hidden)]
     #[must_use]
     pub const fn of_date_time(date_time: &DateTime) -> Self {
-        Date::of_fields(&DateTimeData::of(date_time).fields)
+        Date::of_fields(fields_of(date_time))
     }
 
     /// The local time at this date that a call such as [`DateTime::from_local`] takes: the hour

@@ -1,8 +1,9 @@
 // Generated from crates/tz_format/src/formatted.rt by bindings/erase: its contracts are cut. Change that file instead.
 //! Date times as a pattern prints them.
 
-use crate::proved::tz::inner::{DateTimeData, UtcData};
+use crate::proved::tz::inner::{fields_of, utc_fields_of};
 use crate::proved::tz::{DateTime, UtcDateTime};
+use crate::proved::tz_base::fields::Fields;
 use crate::proved::tz_format::line::Line;
 use crate::proved::tz_format::moment::Moment;
 use crate::proved::tz_format::pattern::{Pattern, UtcPattern};
@@ -23,26 +24,29 @@ pub struct FormattedUtcDateTime<'a> {
     date_time: UtcDateTime,
 }
 
+/// The fields by value.
+const fn copied(fields: &Fields) -> Fields {
+    *fields
+}
+
 /// What patterns print of a date time.
 fn moment_of(date_time: &DateTime) -> Moment<'_> {
-    let data = DateTimeData::of(date_time);
     let local_time_type = date_time.local_time_type();
     Moment {
-        fields: data.fields,
+        fields: copied(fields_of(date_time)),
         ut_offset: local_time_type.ut_offset(),
         designation: local_time_type.time_zone_designation(),
-        unix_time: data.unix_time,
+        unix_time: date_time.unix_time(),
     }
 }
 
 /// What patterns print of a date time of UTC.
 fn moment_of_utc(date_time: &UtcDateTime) -> Moment<'static> {
-    let data = UtcData::of(date_time);
     Moment {
-        fields: data.fields,
+        fields: copied(utc_fields_of(date_time)),
         ut_offset: 0,
         designation: "UTC",
-        unix_time: data.unix_time,
+        unix_time: date_time.unix_time(),
     }
 }
 

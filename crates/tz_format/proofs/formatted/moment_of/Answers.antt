@@ -16,8 +16,9 @@ returns-clause-value c = search rules
 pub returns-clause-shown : goal.returns-clause-shown
 returns-clause-shown c =
     let d = c.args.date_time.now in
-    let sound = c.of-data.ensures.sound in
-    let fits : FitsSigned w32 d.fields.year = search rules in
+    let sound = c.fields_of.ensures.sound in
+    let read : FitsSigned w32 c.copied.result.year = search rules in
+    let fits : FitsSigned w32 d.fields.year = rw (c.copied.ensures, c.fields_of.ensures.fields) at read in
     let type_is : c.local_time_type-local_time_type.result.now ≡ d.local_time_type =
     c.local_time_type-local_time_type.ensures in
     let name : IfSome d.local_time_type.designation IsDesignation =

@@ -1,11 +1,6 @@
 // Generated from crates/tz/src/datetime/date_time.rt by bindings/erase: its contracts are cut. Change that file instead.
 //! Date times of a local time type.
 
-#[cfg(feature = "inner")]
-use super::FoundDateTimeKind;
-use super::UtcDateTime;
-#[cfg(feature = "inner")]
-use super::entry_takers::Slot;
 use super::utc_date_time::duration_between;
 use super::zone_data_searches::from_timespec;
 use crate::proved::tz::text_buffer::TextBuffer;
@@ -344,76 +339,7 @@ impl fmt::Display for DateTime {
 }
 
 /// The fields of a date time, which are valid.
-#[cfg(feature = "inner")]
 #[must_use]
-pub fn fields_of(date_time: &DateTime) -> &Fields {
+pub const fn fields_of(date_time: &DateTime) -> &Fields {
     date_time.fields()
-}
-
-/// The data of a [`UtcDateTime`], laid out as that is.
-#[repr(C)]
-#[derive(Clone, Copy)]
-pub struct UtcData {
-    /// The fields.
-    pub fields: Fields,
-    /// Their reading.
-    pub unix_time: i64,
-}
-
-/// The data of a [`DateTime`], laid out as that is.
-#[repr(C)]
-#[derive(Clone, Copy)]
-pub struct DateTimeData {
-    /// The fields.
-    pub fields: Fields,
-    /// The type that shows them.
-    pub local_time_type: LocalTimeType,
-    /// Its Unix time.
-    pub unix_time: i64,
-}
-
-/// The data of a [`FoundDateTimeKind`].
-#[cfg(feature = "inner")]
-#[repr(C)]
-#[derive(Clone, Copy)]
-pub struct FoundData {
-    /// Whether the clock was set forward over the date time.
-    pub is_skipped: bool,
-    /// The date time, or the one before the jump.
-    pub before: DateTimeData,
-    /// The date time, or the one after the jump.
-    pub after: DateTimeData,
-}
-
-impl UtcData {
-    /// The data of a date time.
-    #[must_use]
-    pub const fn of(date_time: &UtcDateTime) -> Self {
-        UtcData {
-            fields: *date_time.fields(),
-            unix_time: date_time.unix_time(),
-        }
-    }
-}
-
-impl DateTimeData {
-    /// The data of a date time.
-    #[must_use]
-    pub const fn of(date_time: &DateTime) -> Self {
-        DateTimeData {
-            fields: *date_time.fields(),
-            local_time_type: *date_time.local_time_type(),
-            unix_time: date_time.unix_time(),
-        }
-    }
-}
-
-#[cfg(feature = "inner")]
-impl Slot for FoundData {
-    fn set(&mut self, found: &FoundDateTimeKind) {
-        let (before, after) = found.sides();
-        self.is_skipped = matches!(found, FoundDateTimeKind::Skipped { .. });
-        self.before = DateTimeData::of(before);
-        self.after = DateTimeData::of(after);
-    }
 }

@@ -61,7 +61,7 @@ impl<'a, L: DateTimeList> EntryTaker<'a> for Dated<'_, L> {
 }
 
 /// What holds one entry of a list.
-pub(crate) trait Slot {
+pub trait Slot {
     /// Writes an entry to the slot.
     fn set(&mut self, found: &FoundDateTimeKind);
 }

@@ -436,6 +436,12 @@ impl fmt::Display for UtcDateTime {
     }
 }
 
+/// The fields of a date time of UTC, which are valid.
+#[must_use]
+pub const fn utc_fields_of(date_time: &UtcDateTime) -> &Fields {
+    date_time.fields()
+}
+
 /// The seconds of the total, rounded down, and the nanoseconds that remain, if the seconds are
 /// those of a UTC date time.
 const fn utc_timespec(total: i128) -> Option<(i64, u32)> {

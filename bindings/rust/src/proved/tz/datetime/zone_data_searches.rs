@@ -5,11 +5,9 @@ use super::DateTime;
 #[cfg(feature = "inner")]
 use super::Disambiguation;
 #[cfg(feature = "inner")]
-use super::date_time::FoundData;
-#[cfg(feature = "inner")]
 use super::disambiguation::meant_in;
 #[cfg(feature = "inner")]
-use super::entry_takers::SlotWriter;
+use super::entry_takers::{Slot, SlotWriter};
 #[cfg(feature = "inner")]
 use super::gaps_and_folds::search;
 use crate::proved::tz_base::constants::NANOSECONDS_PER_SECOND;
@@ -59,8 +57,8 @@ fn check_entries(fields: &Fields, zone: &ZoneData<'_>) -> Result<(), TzError> {
 /// Writes the entries for the fields, from one of them on, to the slots, as far as they go, and
 /// counts all.
 #[cfg(feature = "inner")]
-pub fn find_into(
-    slots: &mut [FoundData],
+pub fn find_into<S: Slot>(
+    slots: &mut [S],
     skip: usize,
     fields: &Fields,
     zone: &ZoneData<'_>,

@@ -1,12 +1,12 @@
--- Date times, and what a search finds, as plain data.
-use Rattle.std.specs.Prelude.{◌≡◌, ℕ, List, [], ◌∷◌, false, true, map, drop}
+-- Date times, and what a search finds, as C has them.
+use Rattle.std.specs.Prelude.{◌≡◌, ℕ, List, false, true, map, drop}
 use Rattle.tz_base.specs.Fields.{reading}
 use Rattle.tz.specs.DateTimes.{DateTime, IsUtc}
 use Rattle.tz.specs.declared.datetime.found.FoundDateTimeKind.{FoundDateTimeKind}
 use Rattle.tz.specs.declared.datetime.found.FoundDateTimeKind.TheVariants.{Normal, Skipped}
-use Rattle.tz.specs.declared.datetime.date_time.UtcData.{UtcData}
-use Rattle.tz.specs.declared.datetime.date_time.DateTimeData.{DateTimeData}
-use Rattle.tz.specs.declared.datetime.date_time.FoundData.{FoundData}
+use Rattle.tz_c.specs.declared.date_time_data.UtcData.{UtcData}
+use Rattle.tz_c.specs.declared.date_time_data.DateTimeData.{DateTimeData}
+use Rattle.tz_c.specs.declared.date_time_data.FoundData.{FoundData}
 
 -- the data of a date time of UTC
 pub record IsUtcData (d : UtcData) : Type 0 where
@@ -44,10 +44,3 @@ found_data (Skipped before after) = record {
 -- the data of a list from a number on
 abbrev pub entries_from : ℕ → List FoundDateTimeKind → List FoundData
 entries_from skip found = map found_data (drop skip found)
-
--- slots into which a list is put: its front, as far as the slots go, and then the other slots as
--- they were
-abbrev pub placed : {A : Type 0} → List A → List A → List A
-placed [] xs = []
-placed (slot ∷ slots) [] = slot ∷ slots
-placed (slot ∷ slots) (x ∷ xs) = x ∷ placed slots xs
