@@ -18,11 +18,12 @@ ghost use Rattle.tz_base.specs.declared.error.TzError.{TzError};
 ghost use Rattle.tz_base.specs.declared.error.TzError.TheVariants.{Memory};
 ghost use Rattle.tz_base.specs.declared.error.DateTimeError.{DateTimeError};
 ghost use Rattle.tz_rule.specs.LocalTimeType.{IsOffset, LocalTimeType};
+ghost use Rattle.tz_zone.specs.Changes.{Change, IsChange};
 ghost use Rattle.tz_zone.specs.Clock.{IsClock};
 ghost use Rattle.tz_zone.specs.Table.{Zone};
 ghost use Rattle.tz_zone.specs.ZoneRef.{zone_of};
 ghost use Rattle.tz.specs.FindFaults.{IsPromised, IsFindFault};
-ghost use Rattle.tz.specs.Found.{EachCanBeMade, IsFound};
+ghost use Rattle.tz.specs.Found.{EachCanBeMade, IsFound, IsJumpOver};
 ghost use Rattle.tz.specs.Meanings.{IsMeaning, IsMeaningFault};
 ghost use Rattle.tz.specs.LocalMeanings.{ChoicesAgree, HasMeaning};
 ghost use Rattle.tz.specs.Windows.{IsWindow, TakesEffectIn, AreRising, AtMostTakeEffectIn};
@@ -37,7 +38,7 @@ ghost use Rattle.tz.specs.declared.datetime.found.FoundDateTimeKind.TheVariants.
 ghost use Rattle.tz.specs.declared.datetime.disambiguation.Meaning.{Meaning};
 ghost use Rattle.tz.specs.declared.datetime.disambiguation.Meaning.TheVariants.{Nothing as nothing, Once as once, Twice as twice, Skipped as gap, More as more};
 ghost use Rattle.tz.specs.contracts.datetime.utc_date_time.UtcDateTimeOrd.TheImpl as utc_order;
-ghost use Rattle.tz.specs.DateTimes.{DateTime, IsDateTime, IsUtc, IsUtcAt, IsPastTheEnd, IsShowFault, IsClockFault, IsForwards, IsBackwards, ShowsByClock, utc_total, total_of, moment_eq, moment_cmp};
+ghost use Rattle.tz.specs.DateTimes.{DateTime, IsDateTime, IsUtc, IsUtcAt, IsPastTheEnd, IsShowFault, IsClockFault, IsForwards, IsBackwards, ShowsByClock, ShowsInstant, utc_total, total_of, moment_eq, moment_cmp};
 
 use crate::{DateTime, TimeZoneRef};
 use tz_zone::laws::{shown_types_are_sound, type_parts_are_sound};
@@ -212,6 +213,28 @@ pub fn searches_invert_lookups()
 {
     found_date_times_are_shown();
     shown_date_times_are_found();
+}
+
+/// Each forward jump that [`crate::DateTime::find`] lists is a change of the zone's clock at its
+/// instant, with the types of its sides, such as [`TimeZoneRef::following`] returns. And it lists
+/// each change by which clocks are set forward over the fields.
+pub fn jumps_are_changes(zone: &TimeZoneRef<'_>)
+    ensures change { (f : Fields) (before after : DateTime) (found : List FoundDateTimeKind)
+        → IsValid f → FitsSigned w32 f.year → IsFound (IsClock (zone_of zone.now)) f found
+        → Contains found (skipped before after)
+        → (before.unix_time ≡ after.unix_time) × IsChange (zone_of zone.now) (record {
+          unix_time = after.unix_time;
+          before = before.local_time_type;
+          after = after.local_time_type;
+        }) }
+    ensures jump { (f : Fields) (c : Change) (before after : DateTime)
+        (found : List FoundDateTimeKind) → IsFound (IsClock (zone_of zone.now)) f found
+        → IsChange (zone_of zone.now) c → IsJumpOver (reading f) c.unix_time c.before c.after
+        → ShowsInstant c.unix_time f.nanoseconds c.before before
+        → ShowsInstant c.unix_time f.nanoseconds c.after after
+        → Contains found (skipped before after) }
+{
+    shown_types_are_sound(zone);
 }
 
 /// If the list of a search in a zone is promised, each of its entries can be made.
