@@ -166,3 +166,27 @@ fn a_copy_with_each_growth_refused(rt: HostRuntime) -> Result<(), Fail> {
     expect_copies(&rt, rt.alloc(), zone.as_ref())?;
     Ok(())
 }
+
+/// A zone whose clocks are set back by an hour at each hour from 1970 on, so that they show 00:30
+/// forty times.
+fn forty_times(alloc: Global) -> Result<TimeZone, TzError> {
+    let mut transitions = Vec::new(alloc);
+    let mut types = Vec::new(alloc);
+    for hour in 0..40u8 {
+        transitions.push(Transition::new(i64::from(hour) * 3600, usize::from(hour)))?;
+        types.push(LocalTimeType::with_ut_offset(i32::from(hour) * -3600)?)?;
+    }
+    transitions.push(Transition::new(144_000, 0))?;
+    TimeZone::new(transitions, types, Vec::new(alloc), None)
+}
+
+/// A long list is copied, too, if there is memory.
+#[test]
+fn a_copy_of_forty_entries(rt: HostRuntime) -> Result<(), Fail> {
+    let zone = forty_times(rt.alloc())?;
+    let list = find(rt.alloc(), zone.as_ref(), (1970, 1, 1, 0, 30, 0))?;
+    let (kept, is_equal) = copied(rt.alloc(), list)?;
+    expect_eq(&rt, &kept.len(), &40);
+    expect_eq(&rt, &is_equal, &Some(true));
+    Ok(())
+}
