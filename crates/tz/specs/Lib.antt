@@ -15,6 +15,7 @@ pub mod Outcomes
 pub mod PrintedText
 pub mod Grammars
 pub mod DateTimeText
+pub mod PartTexts
 pub mod PrintedBytes
 pub mod TzStrings
 pub mod UtcConstants

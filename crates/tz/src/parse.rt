@@ -65,8 +65,15 @@ pub enum DateTimePart {
     End,
 }
 
-/// Names the part and its form.
+/// Names the part and its form, whatever the width of the format.
 impl fmt::Display for DateTimePart {
+    ghost use Rattle.std.specs.Prelude.{Some};
+    ghost use Rattle.tz.specs.PartTexts.{part_text};
+
+    ghost output = { λ part. Some (part_text part) };
+
+    ghost styled_output = { λ part _. Some (part_text part) };
+
     fn fmt<W: fmt::Write>(&self, f: &mut fmt::Formatter<W>) -> fmt::Result {
         f.write_str(match self {
             DateTimePart::Year => "a year of four digits or more",

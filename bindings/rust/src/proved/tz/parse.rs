@@ -50,7 +50,7 @@ pub enum DateTimePart {
     End,
 }
 
-/// Names the part and its form.
+/// Names the part and its form, whatever the width of the format.
 impl fmt::Display for DateTimePart {
     fn fmt(&self, f: &mut fmt::Formatter<'_>) -> fmt::Result {
         f.write_str(match self {
