@@ -305,6 +305,7 @@ impl DateTime {
         local_time_type: LocalTimeType,
     ) -> Result<Self, TzError>
         ensures ok { IfOk result (ShowsTotal total_nanoseconds local_time_type) }
+        ensures reads { IfOk result (λ d. IsReading (reading d.fields)) }
         ensures err { IfErr result (IsTotalFault total_nanoseconds local_time_type.ut_offset) }
     {
         let total = timespec(total_nanoseconds);
@@ -327,6 +328,7 @@ impl DateTime {
     ) -> Result<Self, TzError>
         ensures ok { IfOk result
             (ShowsTotalByClock (zone_of time_zone_ref.entry) total_nanoseconds) }
+        ensures reads { IfOk result (λ d. IsReading (reading d.fields)) }
         ensures err { IfErr result
             (IsTotalClockFault (zone_of time_zone_ref.entry) total_nanoseconds) }
     {
@@ -344,6 +346,7 @@ impl DateTime {
     pub fn project(&self, time_zone_ref: TimeZoneRef<'_>) -> Result<Self, TzError>
         ensures ok { IfOk result (ShowsByClock (zone_of time_zone_ref.entry) self.now.unix_time
             self.now.fields.nanoseconds) }
+        ensures reads { IfOk result (λ d. IsReading (reading d.fields)) }
         ensures err { IfErr result (IsClockFault (zone_of time_zone_ref.entry) self.now.unix_time
             self.now.fields.nanoseconds) }
     {
@@ -373,6 +376,7 @@ impl DateTime {
     ) -> Result<Self, TzError>
         ensures ok { IfOk result
             (ShowsByClock (zone_of time_zone_ref.entry) unix_time nanoseconds) }
+        ensures reads { IfOk result (λ d. IsReading (reading d.fields)) }
         ensures err { IfErr result
             (IsClockFault (zone_of time_zone_ref.entry) unix_time nanoseconds) }
     {

@@ -220,7 +220,8 @@ impl DateTime {
     ///
     /// # Errors
     ///
-    /// [`TzError::OutOfRange`] as for [`DateTime::find`].
+    /// [`TzError::OutOfRange`] as for [`DateTime::find`]. Entries that come before the one that is
+    /// out of range may have been written.
     pub fn find_n_local<'a>(
         buf: &'a mut [Option<FoundDateTimeKind>],
         local: UtcDateTime,

@@ -10,6 +10,7 @@ returns c =
     record {
       ok = IfOk-weaker c.from_timespec.result _ _ (λ d h. (t.unix_time, t.nanoseconds, parts, rw same at h))
           c.from_timespec.ensures.ok;
+      reads = c.from_timespec.ensures.reads;
       err = IfErr-weaker c.from_timespec.result _ _ (λ e h. inr (t.unix_time, t.nanoseconds, parts, rw same at h))
           c.from_timespec.ensures.err;
     }
