@@ -1,10 +1,11 @@
 -- A lookup has one result, and a search has one error.
 use Rattle.tz.proofs.Common.{arith, ◌≡◌, subst, ◌∙◌, ints, inr, sym, inl, ap, ℕ, ℤ, Fields, IsClock, Zone, ◌+ℤ◌, IsValid, LocalTimeType, reading, DateTime, EachCanBeMade, IsReading, TzError, ShowsByClock, IsClockFault, IsFindFault, ShowsInstant, nat_tests, DateTimeError, InvalidHour, InvalidMinute, InvalidMonth, InvalidMonthDay, InvalidNanoseconds, InvalidSecond, IsFirstFault, IsTypeAfter, ◌&&◌, IsOver, Transition, cond, last_unique, leb, one_leap_time, one_type, some_from_last}
 use Rattle.tz_base.specs.declared.error.TzError.TheVariants.{DateTime as FieldFault}
+use Rattle.tz_zone.specs.Clock.{IsLookupFault}
 use Rattle.tz.proofs.PromisedLists.{not_out_of_range, valid_without_fault}
 use Rattle.tz.proofs.DatedEntries.{side_unique}
 
-module _ (z : Zone) (u : ℤ) (n : ℕ) where
+module _ (z : Zone) (u : ℤ) where
   -- a zone that is over has no type
   no_type_when_over : IsOver z u → (t : LocalTimeType) → ¬ IsClock z u t
   no_type_when_over (last, l, is_last, leap, from, none) t (inl (without, type)) =
@@ -22,6 +23,12 @@ module _ (z : Zone) (u : ℤ) (n : ℕ) where
   no_type_when_over (last, l, is_last, leap, from, none) t (inr (last', is_last', (l', leap', inr (from', type)))) =
       subst (λ rule. IsTypeAfter rule u t) none type
 
+  -- nor has one whose lookup is refused
+  pub no_type_at_fault : (e : TzError) → IsLookupFault z u e → (t : LocalTimeType) → ¬ IsClock z u t
+  no_type_at_fault e (inl (_, over)) t clock = no_type_when_over over t clock
+  no_type_at_fault e (inr (_, none, _)) t clock = none t clock
+
+module _ (z : Zone) (u : ℤ) (n : ℕ) where
   pub clock_fault_unique : (e e' : TzError) → IsClockFault z u n e → IsClockFault z u n e' → e ≡ e'
   clock_fault_unique e e' (inl (is, many)) (inl (is', many')) = is ∙ sym is'
   clock_fault_unique e e' (inl (is, many)) (inr (inl (few, fault))) = absurd (omega (arith, many, few))
@@ -35,11 +42,11 @@ module _ (z : Zone) (u : ℤ) (n : ℕ) where
   clock_fault_unique e e' (inr (inl (few, inr (is, none, not_over)))) (inr (inl (few', inr (is', none', not_over')))) =
       is ∙ sym is'
   clock_fault_unique e e' (inr (inl (few, inl (is, over)))) (inr (inr (is', few', (t, clock, out)))) =
-      absurd (no_type_when_over over t clock)
+      absurd (no_type_when_over z u over t clock)
   clock_fault_unique e e' (inr (inl (few, inr (is, none, not_over)))) (inr (inr (is', few', out))) = is ∙ sym is'
   clock_fault_unique e e' (inr (inr (is, few, out))) (inl (is', many)) = absurd (omega (arith, many, few))
   clock_fault_unique e e' (inr (inr (is, few, (t, clock, out)))) (inr (inl (few', inl (is', over)))) =
-      absurd (no_type_when_over over t clock)
+      absurd (no_type_when_over z u over t clock)
   clock_fault_unique e e' (inr (inr (is, few, out))) (inr (inl (few', inr (is', none, not_over)))) = is ∙ sym is'
   clock_fault_unique e e' (inr (inr (is, few, out))) (inr (inr (is', few', out'))) = is ∙ sym is'
 
@@ -48,7 +55,8 @@ module _ (z : Zone) (u : ℤ) (n : ℕ) where
       → ¬ IsClockFault z u n e
   no_fault_where_shown d e (t, clock, shows) in_range (inl (is, many)) =
       omega (arith, many, shows.civil.valid.in_range.nanoseconds, shows.civil.nanoseconds_are)
-  no_fault_where_shown d e (t, clock, shows) in_range (inr (inl (few, inl (is, over)))) = no_type_when_over over t clock
+  no_fault_where_shown d e (t, clock, shows) in_range (inr (inl (few, inl (is, over)))) =
+      no_type_when_over z u over t clock
   no_fault_where_shown d e (t, clock, shows) in_range (inr (inl (few, inr (is, none, not_over)))) = none t clock
   no_fault_where_shown d e (t, clock, shows) in_range (inr (inr (is, few, (t', clock', out)))) =
       out (subst IsReading (shows.civil.reads ∙ ap (λ x. u +ℤ x.ut_offset) (one_type z u t t' clock clock')) in_range)

@@ -1,7 +1,8 @@
 //! Date times and searches in zones of plain data.
 
-ghost use Rattle.std.specs.Prelude.{◌≡◌, List, drop, length, map, IfOk, IfErr, OnOk};
+ghost use Rattle.std.specs.Prelude.{◌≡◌, ◌<◌, ◌+ℤ◌, List, drop, length, map, IfOk, IfErr, OnOk};
 ghost use Rattle.tz_base.specs.Fields.{IsReading, IsValid, reading};
+ghost use Rattle.tz_rule.specs.LocalTimeType.{LocalTimeType};
 ghost use Rattle.tz_zone.specs.Clock.{IsClock};
 ghost use Rattle.tz_zone.specs.ZoneOfData.{zone_of_data};
 ghost use Rattle.tz.specs.Buffers.{placed};
@@ -30,11 +31,32 @@ pub fn from_timespec(
     ensures reads { IfOk result (λ d. IsReading (reading d.fields)) }
     ensures err { IfErr result (IsClockFault (zone_of_data zone.now) unix_time nanoseconds) }
 {
-    if nanoseconds >= NANOSECONDS_PER_SECOND {
-        return Err(TzError::DateTime(DateTimeError::InvalidNanoseconds));
+    if nanoseconds < NANOSECONDS_PER_SECOND {
+        if let Ok(local_time_type) = zone.find_local_time_type(unix_time) {
+            if let Ok(date_time) = DateTime::shown_by(unix_time, nanoseconds, *local_time_type) {
+                return Ok(date_time);
+            }
+        }
     }
-    let local_time_type = zone.find_local_time_type(unix_time)?;
-    DateTime::shown_by(unix_time, nanoseconds, *local_time_type)
+    Err(clock_fault(unix_time, nanoseconds, *zone))
+}
+
+/// Why the zone's clock shows no date time at a Unix time. It looks the type up again, so that a
+/// lookup that succeeds passes on no error, and takes the zone by value, so that this stays in
+/// registers.
+#[cold]
+fn clock_fault(unix_time: i64, nanoseconds: u32, zone: ZoneData<'_>) -> TzError
+    requires { nanoseconds < 1000000000 → (t : LocalTimeType)
+        → IsClock (zone_of_data zone) unix_time t → ¬ IsReading (unix_time +ℤ t.ut_offset) }
+    ensures { IsClockFault (zone_of_data zone.entry) unix_time nanoseconds result }
+{
+    if nanoseconds >= NANOSECONDS_PER_SECOND {
+        return TzError::DateTime(DateTimeError::InvalidNanoseconds);
+    }
+    match zone.find_local_time_type(unix_time) {
+        Ok(_) => TzError::OutOfRange,
+        Err(error) => error,
+    }
 }
 
 /// Searches without writing anything. It stands apart, so that the search that writes stays small.

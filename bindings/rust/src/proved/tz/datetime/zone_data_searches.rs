@@ -25,14 +25,28 @@ pub const fn from_timespec(
     nanoseconds: u32,
     zone: &ZoneData<'_>,
 ) -> Result<DateTime, TzError> {
-    if nanoseconds >= NANOSECONDS_PER_SECOND {
-        return Err(TzError::DateTime(DateTimeError::InvalidNanoseconds));
+    if nanoseconds < NANOSECONDS_PER_SECOND {
+        if let Ok(local_time_type) = zone.find_local_time_type(unix_time) {
+            if let Ok(date_time) = DateTime::shown_by(unix_time, nanoseconds, *local_time_type) {
+                return Ok(date_time);
+            }
+        }
     }
-    let local_time_type = match zone.find_local_time_type(unix_time) {
-        Ok(value) => value,
-        Err(error) => return Err(error),
-    };
-    DateTime::shown_by(unix_time, nanoseconds, *local_time_type)
+    Err(clock_fault(unix_time, nanoseconds, *zone))
+}
+
+/// Why the zone's clock shows no date time at a Unix time. It looks the type up again, so that a
+/// lookup that succeeds passes on no error, and takes the zone by value, so that this stays in
+/// registers.
+#[cold]
+const fn clock_fault(unix_time: i64, nanoseconds: u32, zone: ZoneData<'_>) -> TzError {
+    if nanoseconds >= NANOSECONDS_PER_SECOND {
+        return TzError::DateTime(DateTimeError::InvalidNanoseconds);
+    }
+    match zone.find_local_time_type(unix_time) {
+        Ok(_) => TzError::OutOfRange,
+        Err(error) => error,
+    }
 }
 
 /// Searches without writing anything. It stands apart, so that the search that writes stays small.

@@ -1,23 +1,26 @@
--- The zone's clock shows the date time, or its lookup is refused, or the year is out of range.
-use Rattle.tz.proofs.Common.{inr, inl, to_z-of_z, rules, w64, err_from_is_err_and, IfErr-weaker, IfOk-weaker}
+-- The zone's clock shows the date time, or has no type, or its type shows no reading.
+use Rattle.tz.proofs.Common.{arith, subst, sym, to_z-of_z, w64, one_type, LocalTimeType, IsReading, ◌+ℤ◌, zone_of_data}
+use Rattle.tz.proofs.UniqueResults.{no_type_at_fault}
+use Rattle.tz.proofs.datetime.zone_data_searches.from_timespec.Goals.{then-nanoseconds-lt-NANOSECONDS_PER_SECOND+in-Ok+in_default-shown_by, then-nanoseconds-lt-NANOSECONDS_PER_SECOND+in_default, else-nanoseconds-lt-NANOSECONDS_PER_SECOND}
 use Rattle.tz.proofs.datetime.zone_data_searches.from_timespec.Goals as goal
 
-pub returns-in_err-local_time_type-clause-err : goal.returns-in_err-local_time_type-clause-err
-returns-in_err-local_time_type-clause-err c =
-    let p = err_from_is_err_and c.from_residual.result c.from_residual.ensures.1 in
-    rw (p.1, p.2) (inr (inl (
-      search rules,
-      rw (to_z-of_z w64 c.args.unix_time c.ranges.unix_time) at c.in_err-local_time_type.ensures.err,
-    )))
-
-pub returns : goal.returns
-returns c =
+pub returns-in-Ok-shown_by-clause-ok : goal.returns-in-Ok-shown_by-clause-ok
+returns-in-Ok-shown_by-clause-ok c =
     let fits = to_z-of_z w64 c.args.unix_time c.ranges.unix_time in
-    let found = rw fits at c.in_ok-local_time_type.ensures.ok in
-    let t = c.in_ok-local_time_type.local_time_type.now in
-    record {
-      ok = IfOk-weaker c.shown_by.result _ _ (λ d h. (t, found, rw fits at h)) c.shown_by.ensures.ok;
-      reads = search rules;
-      err = IfErr-weaker c.shown_by.result _ _ (λ e h. inr (inr (h.0, search rules, (t, found, rw fits at h.1))))
-          c.shown_by.ensures.err;
-    }
+    (c.in-Ok.local_time_type.now, rw fits at c.in-Ok.ensures.ok, rw fits at c.in-Ok-shown_by.ensures.ok)
+
+pub clock_fault-requires : goal.clock_fault-requires
+clock_fault-requires c few t clock reads =
+    elim c.if-nanoseconds-lt-NANOSECONDS_PER_SECOND.branch [
+      | then-nanoseconds-lt-NANOSECONDS_PER_SECOND+in-Ok+in_default-shown_by w ↦
+          let same = one_type (zone_of_data c.args.zone.now) _ w.in-Ok.local_time_type.now t w.in-Ok.ensures.ok clock in
+          w.in_default-shown_by.ensures.err.1
+          (subst (λ (x : LocalTimeType). IsReading (_ +ℤ x.ut_offset)) (sym same) reads)
+      | then-nanoseconds-lt-NANOSECONDS_PER_SECOND+in_default w ↦
+          no_type_at_fault (zone_of_data c.args.zone.now) _ _ w.in_default.ensures.err t clock
+      | else-nanoseconds-lt-NANOSECONDS_PER_SECOND w ↦
+          omega (arith, few, w.if-nanoseconds-lt-NANOSECONDS_PER_SECOND.false)
+    ]
+
+pub returns-clause-err : goal.returns-clause-err
+returns-clause-err c = rw (to_z-of_z w64 c.args.unix_time c.ranges.unix_time) at c.clock_fault.ensures
