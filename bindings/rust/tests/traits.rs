@@ -20,8 +20,8 @@ use tz::timezone::{
     Transition, TransitionRule,
 };
 use tz::{
-    Change, DateTime, Error, LocalTimeType, ParseDateTimeError, ParsedDateTime, Segment, TimeZone,
-    TimeZoneRef, TimeZoneSettings, TzError, UtcDateTime,
+    Change, DateTime, DateTimePart, Error, LocalTimeType, ParseDateTimeError, ParsedDateTime,
+    Segment, TimeZone, TimeZoneRef, TimeZoneSettings, TzError, UtcDateTime,
 };
 
 /// Types and bounds that they have to meet.
@@ -58,6 +58,8 @@ have! {
     Segment<'static>: [Copy + Eq + Hash + Debug + Send + Sync];
     ParsedDateTime: [Copy + Eq + FromStr<Err = ParseDateTimeError> + Debug + Send + Sync + 'static];
     ParsedDateTime: [for<'a> TryFrom<&'a str, Error = ParseDateTimeError>];
+    UtcDateTime: [FromStr<Err = ParseDateTimeError>];
+    UtcDateTime: [for<'a> TryFrom<&'a str, Error = ParseDateTimeError>];
     TimeZoneRef<'static>: [Copy + Eq + Hash + Debug + Send + Sync + Unpin + UnwindSafe + RefUnwindSafe];
     TimeZone: [Clone + Eq + Hash + Debug + Send + Sync + Unpin + UnwindSafe + RefUnwindSafe + 'static];
     TimeZone: [for<'a> TryFrom<TimeZoneRef<'a>, Error = TzError>];
@@ -223,4 +225,48 @@ fn texts_are_read_by_traits() {
     assert!(fault.is_err());
     assert_eq!("2000-02-30".parse(), fault);
     assert_eq!(ParsedDateTime::try_from("2000-02-30"), fault);
+}
+
+/// A `UtcDateTime` is read of a text that ends in `Z`, and of no other.
+#[test]
+fn utc_date_times_are_read_by_traits() -> Result<(), TzError> {
+    let leap_second = UtcDateTime::new(1990, 12, 31, 23, 59, 60, 0)?;
+    for (text, expected) in [
+        ("1970-01-01T00:00:00Z", UtcDateTime::UNIX_EPOCH),
+        ("1970-01-01t00:00:00z", UtcDateTime::UNIX_EPOCH),
+        ("1970-01-01 00:00:00.000000000Z", UtcDateTime::UNIX_EPOCH),
+        // RFC 3339, section 5.8
+        (
+            "1985-04-12T23:20:50.52Z",
+            UtcDateTime::new(1985, 4, 12, 23, 20, 50, 520_000_000)?,
+        ),
+        ("1990-12-31T23:59:60Z", leap_second),
+        ("-2147483648-01-01T00:00:00Z", UtcDateTime::MIN),
+        ("2147483647-12-31T23:59:59.999999999Z", UtcDateTime::MAX),
+    ] {
+        assert_eq!(text.parse(), Ok(expected), "{text}");
+        assert_eq!(UtcDateTime::try_from(text), Ok(expected), "{text}");
+        assert_eq!(expected.to_string().parse(), Ok(expected), "{text}");
+    }
+    for (text, expected, position) in [
+        ("1970-01-01T00:00:00+00:00", DateTimePart::Offset, 19),
+        ("1970-01-01T00:00:00-00:00", DateTimePart::Offset, 19),
+        ("1970-01-01T02:00:00.5+02:00", DateTimePart::Offset, 21),
+        ("1970-01-01T00:00:00+", DateTimePart::Offset, 19),
+        ("1970-01-01T00:00:00", DateTimePart::Offset, 19),
+        ("1970-01-01T00:00:00 Z", DateTimePart::Offset, 19),
+        ("1970-01-01T00:00:00ZZ", DateTimePart::End, 20),
+        ("1970-01-01T00:00:00Z ", DateTimePart::End, 20),
+        ("1970-01-01", DateTimePart::Separator, 10),
+        ("1970-02-29T00:00:00Z", DateTimePart::MonthDay, 8),
+        ("1970-01-01T00:00:61Z", DateTimePart::Second, 17),
+        ("2147483647-12-31T23:59:60Z", DateTimePart::Second, 23),
+        ("2147483648-01-01T00:00:00Z", DateTimePart::Year, 0),
+        ("", DateTimePart::Year, 0),
+    ] {
+        let fault = Err(ParseDateTimeError { expected, position });
+        assert_eq!(text.parse::<UtcDateTime>(), fault, "{text}");
+        assert_eq!(UtcDateTime::try_from(text), fault, "{text}");
+    }
+    Ok(())
 }

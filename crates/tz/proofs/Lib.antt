@@ -29,6 +29,7 @@ pub mod LocalMeaningLaws
 pub mod TextFronts
 pub mod TextValues
 pub mod UniqueTexts
+pub mod UtcTexts
 pub mod ReadBack
 pub mod PrintedForms
 pub mod PrintedBytes

@@ -3,6 +3,7 @@ use Rattle.tz.proofs.Common.{arith, refl, ◌≡◌, subst, ◌∙◌, ints, inr
 use Rattle.std.specs.Prelude.{Bool, true, false}
 use Rattle.std.specs.Int.{w32}
 use Rattle.tz.specs.UtcConstants.{max_is_utc}
+use Rattle.tz.specs.UtcText.{IsUtcText}
 use Rattle.tz.proofs.LastDigits.{last_digits_all, last_digits_length, last_digits_value}
 use Rattle.tz.proofs.PrintedDigits.{decimal-pairs, length-two_digits, two_digits_or_more-below}
 
@@ -214,11 +215,12 @@ pub in_parts : (f : Fields) (z : ℤ) → printed_text f z ≡ signed_decimal f.
 unfolding printed_text date_text time_text after_year after_month after_date after_hour after_minute after_second
 in_parts f z = simp append_assoc
 
-pub printed_is_read : (f : Fields) (z : ℤ) → IsValid f → ¬ IsPastTheEnd f → FitsSigned w32 f.year → FitsSigned w32 z
-    → IsOffset z
-    → IsDateTimeText (printed_text f z) (record { local = f; ut_offset = Some z })
+-- the local time of a printed text is read, whatever the offset after it
+pub printed_local : (f : Fields) (z : ℤ) → IsValid f → ¬ IsPastTheEnd f → FitsSigned w32 f.year
+    → date.reads (printed_text f z) (fields_of f.year f.month f.month_day 0 0 0 0) (after_date f z)
+    × (time (fields_of f.year f.month f.month_day 0 0 0 0)).reads (two_digits f.hour ++ after_hour f z) f (offset_text z)
 unfolding after_year after_month after_date after_hour after_minute after_second
-printed_is_read f z valid not_past fits fits_too other =
+printed_local f z valid not_past fits =
     let r = valid.in_range in
     let d = fields_of f.year f.month f.month_day 0 0 0 0 in
     let year = subst (λ text. IsYear text f.year (after_year f z)) (sym (in_parts f z))
@@ -276,8 +278,16 @@ printed_is_read f z valid not_past fits fits_too other =
           ),
         ),
       ),
-    ) in (
-      d,
+    ) in
+    (date_is, time_is)
+
+pub printed_is_read : (f : Fields) (z : ℤ) → IsValid f → ¬ IsPastTheEnd f → FitsSigned w32 f.year → FitsSigned w32 z
+    → IsOffset z
+    → IsDateTimeText (printed_text f z) (record { local = f; ut_offset = Some z })
+unfolding after_date
+printed_is_read f z valid not_past fits fits_too other =
+    let (date_is, time_is) = printed_local f z valid not_past fits in (
+      fields_of f.year f.month f.month_day 0 0 0 0,
       after_date f z,
       date_is,
       (
@@ -295,6 +305,28 @@ printed_is_read f z valid not_past fits fits_too other =
             printed_offset z fits_too other,
             (tt, [], (refl, refl), (refl, refl)),
           ),
+        ),
+      ),
+    )
+
+-- and with `Z` after it as a date time of UTC
+pub printed_is_utc : (f : Fields) → IsUtc f → FitsSigned w32 f.year → IsUtcText (printed_text f (pos 0)) f
+unfolding after_date offset_text
+printed_is_utc f utc fits =
+    let (date_is, time_is) = printed_local f (pos 0) utc.valid (utc_not_past f utc) fits in (
+      fields_of f.year f.month f.month_day 0 0 0 0,
+      after_date f (pos 0),
+      date_is,
+      (
+        tt,
+        two_digits f.hour
+            ++ after_hour f (pos 0),
+        inl refl,
+        (
+          f,
+          offset_text (pos 0),
+          time_is,
+          (tt, [], inl refl, (tt, [], (refl, refl), (refl, refl))),
         ),
       ),
     )

@@ -9,24 +9,24 @@ use Rattle.tz.specs.declared.parse.OffsetMark.{OffsetMark}
 use Rattle.tz.proofs.TextFronts.{digits_unique, no_digits_at_minus, pair_unique}
 
 -- at most one value and one rest
-abbrev IsUnique : {A : Type 0} → (List ℕ → A → List ℕ → Type 0) → Type 0
+abbrev pub IsUnique : {A : Type 0} → (List ℕ → A → List ℕ → Type 0) → Type 0
 IsUnique {A} begins = (text : List ℕ) (v w : A) (rest rest' : List ℕ) → begins text v rest → begins text w rest'
     → (v ≡ w) × (rest ≡ rest')
 
 -- what follows is no longer than the text
-abbrev IsWithin : {A : Type 0} → (List ℕ → A → List ℕ → Type 0) → Type 0
+abbrev pub IsWithin : {A : Type 0} → (List ℕ → A → List ℕ → Type 0) → Type 0
 IsWithin {A} begins = (text : List ℕ) (v : A) (rest : List ℕ) → begins text v rest → length rest ≤ length text
 
-record IsExact {A : Type 0} (g : Grammar A) : Type 0 where
-  read : IsUnique g.reads
-  missing : (text : List ℕ) (e e' : DateTimePart) (rest rest' : List ℕ) → g.misses text e rest → g.misses text e' rest'
+pub record IsExact {A : Type 0} (g : Grammar A) : Type 0 where
+  pub read : IsUnique g.reads
+  pub missing : (text : List ℕ) (e e' : DateTimePart) (rest rest' : List ℕ) → g.misses text e rest → g.misses text e' rest'
       → (e ≡ e') × (rest ≡ rest')
-  either : (text : List ℕ) (v : A) (e : DateTimePart) (rest rest' : List ℕ) → g.reads text v rest
+  pub either : (text : List ℕ) (v : A) (e : DateTimePart) (rest rest' : List ℕ) → g.reads text v rest
       → ¬ g.misses text e rest'
-  read_within : IsWithin g.reads
-  missing_within : IsWithin g.misses
+  pub read_within : IsWithin g.reads
+  pub missing_within : IsWithin g.misses
 
-exact_one : {A : Type 0} (part : DateTimePart) (begins : List ℕ → A → List ℕ → Type 0) → IsUnique begins
+pub exact_one : {A : Type 0} (part : DateTimePart) (begins : List ℕ → A → List ℕ → Type 0) → IsUnique begins
     → IsWithin begins → IsExact (one part begins)
 exact_one part begins unique within = record {
   read = unique;
@@ -36,7 +36,7 @@ exact_one part begins unique within = record {
   missing_within = λ text e rest m. omega (arith, ap length m.1);
 }
 
-exact_done : {A : Type 0} (v : A) → IsExact (done v)
+pub exact_done : {A : Type 0} (v : A) → IsExact (done v)
 exact_done v = record {
   read = λ text w w' rest rest' reads reads'. (reads.0 ∙ sym reads'.0, reads.1 ∙ sym reads'.1);
   missing = λ text e e' rest rest' m m'. absurd m;
@@ -51,7 +51,7 @@ moved : {A B : Type 0} (next : A → Grammar B) (v v' : A) (after after' : List 
 moved next v v' after after' same P holds =
     subst (λ x. P (next x) after) (sym same.0) (subst (P (next v')) (sym same.1) holds)
 
-exact_then : {A B : Type 0} (first : Grammar A) (next : A → Grammar B) → IsExact first → ((v : A) → IsExact (next v))
+pub exact_then : {A B : Type 0} (first : Grammar A) (next : A → Grammar B) → IsExact first → ((v : A) → IsExact (next v))
     → IsExact (first ▸ next)
 exact_then {A} {B} first next exact exacts = record {
   read = read;
@@ -124,7 +124,7 @@ year_within text y rest (digits, are, fits, inl (front, value)) = digits_within 
 year_within text y rest (digits, are, fits, inr (unsigned, minus, front, value)) =
     omega (arith, ap length minus, digits_within front)
 
-date_exact : IsExact date
+pub date_exact : IsExact date
 date_exact =
     exact_then _ _ (exact_one parts.Year IsYear year_unique year_within) (λ year.
     exact_then _ _ (byte_exact parts.Hyphen 45) (λ _.
@@ -149,7 +149,7 @@ fraction_within text n rest (inl is) = omega (arith, ap length is.2)
 fraction_within text n rest (inr (after, digits, point, front, some, few, value)) =
     omega (arith, ap length point, digits_within front)
 
-time_exact : (f : Fields) → IsExact (time f)
+pub time_exact : (f : Fields) → IsExact (time f)
 time_exact f =
     exact_then _ _ (pair_exact parts.Hour 0 23) (λ hour.
     exact_then _ _ (byte_exact parts.Colon 58) (λ _.
@@ -205,13 +205,13 @@ mark_is text Utc rest (inr is) = (sym (ap mark_at is), sym (ap (drop 1) is))
 mark_is text Ahead rest is = (sym (ap mark_at is), sym (ap (drop 1) is))
 mark_is text Behind rest is = (sym (ap mark_at is), sym (ap (drop 1) is))
 
-mark_unique : IsUnique IsMark
+pub mark_unique : IsUnique IsMark
 mark_unique text v w rest rest' is is' =
     let same = mark_is text v rest is in
     let same' = mark_is text w rest' is' in
     (same.0 ∙ sym same'.0, same.1 ∙ sym same'.1)
 
-mark_within : IsWithin IsMark
+pub mark_within : IsWithin IsMark
 mark_within text mark rest is = omega (arith, length-drop 1 text, ap length (mark_is text mark rest is).1)
 
 offset_exact : IsExact offset
@@ -228,12 +228,16 @@ separator_is text v rest (inl is) = sym (ap (drop 1) is)
 separator_is text v rest (inr (inl is)) = sym (ap (drop 1) is)
 separator_is text v rest (inr (inr is)) = sym (ap (drop 1) is)
 
-separator_exact : IsExact (one parts.Separator IsSeparator)
+pub separator_exact : IsExact (one parts.Separator IsSeparator)
 separator_exact = exact_one _ _ (λ text v w rest rest' is is'. (
   refl,
   separator_is text v rest is ∙ sym (separator_is text w rest' is'),
 ))
     (λ text v rest is. omega (arith, length-drop 1 text, ap length (separator_is text v rest is)))
+
+pub end_exact : IsExact (one parts.End IsEnd)
+end_exact = exact_one parts.End IsEnd (λ text v w rest rest' is is'. (refl, is.1 ∙ sym is'.1))
+    (λ text v rest is. omega (arith, ap length is.1))
 
 date_time_exact : IsExact date_time
 date_time_exact =
@@ -241,14 +245,13 @@ date_time_exact =
     exact_then _ _ separator_exact (λ _.
     exact_then _ _ (time_exact f) (λ local.
     exact_then _ _ offset_exact (λ ut_offset.
-    exact_then _ _ (exact_one parts.End IsEnd (λ text v w rest rest' is is'. (refl, is.1 ∙ sym is'.1))
-    (λ text v rest is. omega (arith, ap length is.1))) (λ _.
+    exact_then _ _ end_exact (λ _.
     exact_done (record { local = local; ut_offset = ut_offset }))))))
 
 pub text_unique : (text : List ℕ) (p q : ParsedDateTime) → IsDateTimeText text p → IsDateTimeText text q → p ≡ q
 text_unique text p q is is' = (date_time_exact.read text p q [] [] is is').0
 
-errors_same : (e e' : ParseDateTimeError) → e.expected ≡ e'.expected → e.position ≡ e'.position → e ≡ e'
+pub errors_same : (e e' : ParseDateTimeError) → e.expected ≡ e'.expected → e.position ≡ e'.position → e ≡ e'
 errors_same e e' part position =
     let first : e ≡ record { expected = e'.expected; position = e.position } =
     ap (λ (p : DateTimePart). record { expected = p; position = e.position }) part in

@@ -16,6 +16,7 @@ pub mod PrintedText
 pub mod Grammars
 pub mod DateTimeText
 pub mod PartTexts
+pub mod UtcText
 pub mod PrintedBytes
 pub mod TzStrings
 pub mod UtcConstants

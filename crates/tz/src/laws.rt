@@ -29,6 +29,7 @@ ghost use Rattle.tz.specs.LocalMeanings.{ChoicesAgree, HasMeaning};
 ghost use Rattle.tz.specs.Windows.{IsWindow, TakesEffectIn, AreRising, AtMostTakeEffectIn};
 ghost use Rattle.tz.specs.PrintedText.{printed_text};
 ghost use Rattle.tz.specs.DateTimeText.{IsDateTimeText, IsDateTimeTextFault, IsTextOf};
+ghost use Rattle.tz.specs.UtcText.{IsUtcText, IsUtcTextFault};
 ghost use Rattle.tz.specs.declared.parse.ParsedDateTime.{ParsedDateTime};
 ghost use Rattle.tz.specs.declared.parse.ParseDateTimeError.{ParseDateTimeError};
 ghost use Rattle.tz.specs.declared.datetime.disambiguation.Disambiguation.{Disambiguation};
@@ -295,4 +296,22 @@ pub fn read_texts_have_a_printed_form()
     ensures { (text : List ℕ) (p : ParsedDateTime) (offset : ℤ)
         → IsDateTimeText text p → p.ut_offset ≡ Some offset
         → IsDateTimeText (printed_text p.local offset) p }
+{}
+
+/// As a [`crate::UtcDateTime`] a text has one result: one date time, or one error. Where it has a
+/// date time, [`crate::ParsedDateTime::parse`] reads the same local time, at offset 0.
+pub fn utc_texts_have_one_result()
+    ensures read { (text : List ℕ) (f g : Fields) → IsUtcText text f → IsUtcText text g → f ≡ g }
+    ensures refused { (text : List ℕ) (e e' : ParseDateTimeError) → IsUtcTextFault text e
+        → IsUtcTextFault text e' → e ≡ e' }
+    ensures either { (text : List ℕ) (f : Fields) (e : ParseDateTimeError) → IsUtcText text f
+        → ¬ IsUtcTextFault text e }
+    ensures parsed { (text : List ℕ) (f : Fields) → IsUtcText text f
+        → IsDateTimeText text (record { local = f; ut_offset = Some (pos 0) }) }
+{}
+
+/// What a [`crate::UtcDateTime`] prints is read as this date time.
+pub fn printed_utc_date_times_are_read()
+    ensures { (f : Fields) → IsUtc f → FitsSigned w32 f.year
+        → IsUtcText (printed_text f (pos 0)) f }
 {}

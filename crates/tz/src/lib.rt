@@ -40,7 +40,7 @@
 //! | [`TimeZoneRef`] | a borrowed zone, which other calls take | [`TimeZone::as_ref`]; without allocating, `new` and `utc` |
 //! | [`TimeZoneSettings`] | directories of zone files, and a function that reads a file | `new` |
 //! | [`DateTime`] | what clocks show at an instant, with their local time type | `from_timespec`, `from_local`, `project`, `now`, `new` |
-//! | [`UtcDateTime`] | a date time of UTC, or one without a zone where a call takes a local time | `new`, `from_timespec`, `now` |
+//! | [`UtcDateTime`] | a date time of UTC, or one without a zone where a call takes a local time | `new`, `from_timespec`, `now`, `parse` of a text |
 //! | [`ParsedDateTime`] | the local time and the offset of a text | [`ParsedDateTime::parse`] |
 //! | [`Disambiguation`](datetime::Disambiguation) | which instant is meant in a gap or a fold | one of its variants |
 //! | [`FoundDateTimeKind`](datetime::FoundDateTimeKind) | an instant at which clocks show a local time, or a jump over it | `DateTime::find` |
@@ -88,6 +88,7 @@ pub(crate) mod parse;
 mod print;
 mod text_buffer;
 mod tz_string_writer;
+mod utc_text;
 
 pub use crate::datetime::{DateTime, UtcDateTime};
 pub use crate::error::{Error, TzError};

@@ -107,13 +107,13 @@ pub struct ParseDateTimeError {
 
 /// A part that is missing, and the bytes in its place.
 #[derive(Clone, Copy)]
-struct Missing<'a> {
-    part: DateTimePart,
-    rest: &'a [u8],
+pub struct Missing<'a> {
+    pub part: DateTimePart,
+    pub rest: &'a [u8],
 }
 
 /// What is read at the beginning of the bytes, or the part that is missing there.
-fn expect<'a, T>(part: DateTimePart, text: &'a [u8], read: Option<T>) -> Result<T, Missing<'a>>
+pub fn expect<'a, T>(part: DateTimePart, text: &'a [u8], read: Option<T>) -> Result<T, Missing<'a>>
     ensures ok { IfOk result (λ value. read ≡ Some value) }
     ensures err { IfErr result (λ e. (read ≡ None) × (e.part ≡ part) × (e.rest.now ≡ text.now)) }
 {
@@ -216,7 +216,7 @@ fn read_year(text: &[u8]) -> Option<(i32, &[u8])>
 }
 
 /// The date at the beginning, as fields at midnight, and the bytes after it.
-fn read_date(text: &[u8]) -> Result<(Fields, &[u8]), Missing<'_>>
+pub fn read_date(text: &[u8]) -> Result<(Fields, &[u8]), Missing<'_>>
     ensures { MatchResult result (λ p. date.reads text.now p.0 p.1.now)
         (λ e. date.misses text.now e.part e.rest.now) }
 {
@@ -230,7 +230,7 @@ fn read_date(text: &[u8]) -> Result<(Fields, &[u8]), Missing<'_>>
 }
 
 /// The bytes after the separator of date and time.
-fn after_separator(text: &[u8]) -> Option<&[u8]>
+pub fn after_separator(text: &[u8]) -> Option<&[u8]>
     ensures { MatchOption result ((rest : List ℕ) → ¬ IsSeparator text.now tt rest)
         (λ rest. IsSeparator text.now tt rest.now) }
 {
@@ -275,7 +275,7 @@ fn read_fraction(text: &[u8]) -> Option<(u32, &[u8])>
 }
 
 /// The time at the beginning, with the fields of the date, and the bytes after it.
-fn read_time<'a>(date: &Fields, text: &'a [u8]) -> Result<(Fields, &'a [u8]), Missing<'a>>
+pub fn read_time<'a>(date: &Fields, text: &'a [u8]) -> Result<(Fields, &'a [u8]), Missing<'a>>
     ensures { MatchResult result (λ p. (time date.now).reads text.now p.0 p.1.now)
         (λ e. (time date.now).misses text.now e.part e.rest.now) }
 {

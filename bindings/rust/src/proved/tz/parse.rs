@@ -84,13 +84,17 @@ pub struct ParseDateTimeError {
 
 /// A part that is missing, and the bytes in its place.
 #[derive(Clone, Copy)]
-struct Missing<'a> {
-    part: DateTimePart,
-    rest: &'a [u8],
+pub struct Missing<'a> {
+    pub part: DateTimePart,
+    pub rest: &'a [u8],
 }
 
 /// What is read at the beginning of the bytes, or the part that is missing there.
-fn expect<'a, T>(part: DateTimePart, text: &'a [u8], read: Option<T>) -> Result<T, Missing<'a>> {
+pub fn expect<'a, T>(
+    part: DateTimePart,
+    text: &'a [u8],
+    read: Option<T>,
+) -> Result<T, Missing<'a>> {
     read.ok_or(Missing { part, rest: text })
 }
 
@@ -164,7 +168,7 @@ fn read_year(text: &[u8]) -> Option<(i32, &[u8])> {
 }
 
 /// The date at the beginning, as fields at midnight, and the bytes after it.
-fn read_date(text: &[u8]) -> Result<(Fields, &[u8]), Missing<'_>> {
+pub fn read_date(text: &[u8]) -> Result<(Fields, &[u8]), Missing<'_>> {
     let (year, text) = expect(DateTimePart::Year, text, read_year(text))?;
     let text = expect(DateTimePart::Hyphen, text, after_byte(text, b'-'))?;
     let (month, text) = expect(DateTimePart::Month, text, read_pair(text, 1, 12))?;
@@ -175,7 +179,8 @@ fn read_date(text: &[u8]) -> Result<(Fields, &[u8]), Missing<'_>> {
 }
 
 /// The bytes after the separator of date and time.
-fn after_separator(text: &[u8]) -> Option<&[u8]> {
+#[must_use]
+pub fn after_separator(text: &[u8]) -> Option<&[u8]> {
     match text {
         [b'T' | b't' | b' ', rest @ ..] => Some(rest),
         _ => None,
@@ -208,7 +213,7 @@ fn read_fraction(text: &[u8]) -> Option<(u32, &[u8])> {
 }
 
 /// The time at the beginning, with the fields of the date, and the bytes after it.
-fn read_time<'a>(date: &Fields, text: &'a [u8]) -> Result<(Fields, &'a [u8]), Missing<'a>> {
+pub fn read_time<'a>(date: &Fields, text: &'a [u8]) -> Result<(Fields, &'a [u8]), Missing<'a>> {
     let (hour, text) = expect(DateTimePart::Hour, text, read_pair(text, 0, 23))?;
     let text = expect(DateTimePart::Colon, text, after_byte(text, b':'))?;
     let (minute, text) = expect(DateTimePart::Minute, text, read_pair(text, 0, 59))?;
