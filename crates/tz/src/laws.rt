@@ -12,7 +12,7 @@ ghost use Rattle.std.specs.Int.{w32};
 ghost use Rattle.std.specs.Ordering.{int_cmp};
 ghost use Rattle.std.specs.declared.cmp.Ordering.TheVariants.{Equal};
 ghost use Rattle.std.specs.declared.time.Duration.{Duration};
-ghost use Rattle.tz_base.specs.Fields.{IsCivil, IsFirstFault, IsReading, IsValid, reading};
+ghost use Rattle.tz_base.specs.Fields.{IsCivil, IsFirstFault, IsReading, IsValid, fields_of, reading};
 ghost use Rattle.tz_base.specs.declared.fields.Fields.{Fields};
 ghost use Rattle.tz_base.specs.declared.error.TzError.{TzError};
 ghost use Rattle.tz_base.specs.declared.error.TzError.TheVariants.{Memory};
@@ -236,6 +236,34 @@ pub fn jumps_are_changes(zone: &TimeZoneRef<'_>)
         → Contains found (skipped before after) }
 {
     shown_types_are_sound(zone);
+}
+
+/// Fields of which each entry can be made have a list of all that is found. So where
+/// [`crate::DateTime::find`] of valid fields is refused, an entry cannot be made, or memory is out.
+pub fn found_lists_exist(
+    year: i32,
+    month: u8,
+    month_day: u8,
+    hour: u8,
+    minute: u8,
+    second: u8,
+    nanoseconds: u32,
+    zone: &TimeZoneRef<'_>,
+)
+    ensures { let f = fields_of year month month_day hour minute second nanoseconds in IsValid f
+        → EachCanBeMade (IsClock (zone_of zone.now)) f
+        → (found : List FoundDateTimeKind) × IsFound (IsClock (zone_of zone.now)) f found }
+{
+    let _ = DateTime::meaning(
+        year,
+        month,
+        month_day,
+        hour,
+        minute,
+        second,
+        nanoseconds,
+        *zone,
+    );
 }
 
 /// If the list of a search in a zone is promised, each of its entries can be made.
