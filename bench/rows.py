@@ -68,7 +68,14 @@ APART = (
 
 # Calls that make a function which another call makes too, so that the compiler would keep it out of line for both: a program of its own makes them,
 # or one for each.
-APART_CALLS = ('meaning', 'kept_segment', 'parse', 'find_local_time_type')
+APART_CALLS = (
+    'meaning',
+    'kept_segment',
+    'parse',
+    'format_log',
+    'read_log',
+    'find_local_time_type',
+)
 ALONE_CALLS = ('from_local',)
 # What that of ALONE_CALLS lacks of the others.
 SHARED_CALLS = ('find_one',)
@@ -395,6 +402,13 @@ def calls(zones, count, seed=SEED):
     yield row(
         '`ParsedDateTime::parse` and `unix_time`, Paris', 'parse', paris, 'instants of local years'
     )
+    yield row(
+        '`DateTime::format`, Common Log, into a new string, Paris',
+        'format_log',
+        paris,
+        'instants of local years',
+    )
+    yield row('`Pattern::read`, Common Log, Paris', 'read_log', paris, 'instants of local years')
     yield row('`UtcDateTime::from_timespec`', 'utc_from_timespec', fixed, 'instants')
     yield row('`UtcDateTime::new` and `unix_time`', 'utc_new', fixed, 'local times')
     yield row('`UtcDateTime::checked_add` and `unix_time`', 'utc_add', fixed, 'instants')

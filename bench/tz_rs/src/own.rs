@@ -5,6 +5,7 @@ use super::calls::{sum_of_found, sum_of_shown};
 use super::loops::{Local, refuse, run_loop};
 use std::hint::black_box;
 use tz::datetime::{Disambiguation, Meaning};
+use tz::format::Pattern;
 use tz::{DateTime, ParsedDateTime, TimeZoneRef, TzError, TzString, UtcDateTime};
 
 /// 1900 and 2100, between which changes are walked over.
@@ -131,6 +132,27 @@ fn parse(texts: &[String]) -> u64 {
     sum
 }
 
+/// The length of a line of the Common Log Format, in a new string.
+#[inline(never)]
+fn format_log(date_times: &[DateTime]) -> u64 {
+    let mut sum = 0u64;
+    for date_time in date_times {
+        sum = sum.wrapping_add(date_time.format(Pattern::COMMON_LOG).to_string().len() as u64);
+    }
+    sum
+}
+
+/// The local time and the offset of such a line.
+#[inline(never)]
+fn read_log(texts: &[String]) -> u64 {
+    let mut sum = 0u64;
+    for text in texts {
+        let read = Pattern::COMMON_LOG.read(text.as_bytes()).unwrap();
+        sum = sum.wrapping_add((read.local().unix_time() - i64::from(read.ut_offset().unwrap())) as u64);
+    }
+    sum
+}
+
 /// The length of the TZ string of the zone's rule.
 #[inline(never)]
 fn from_rule(words: &[i64], zone: TimeZoneRef<'_>) -> u64 {
@@ -191,6 +213,11 @@ pub fn make(call: &str, times: &str, words: &Words, zone: TimeZoneRef<'_>) -> bo
         "parse" => {
             let texts: Vec<String> = words.date_times.iter().map(DateTime::to_string).collect();
             run_loop(call, times, &texts, parse);
+        }
+        "format_log" => run_loop(call, times, &words.date_times, format_log),
+        "read_log" => {
+            let texts: Vec<String> = words.date_times.iter().map(|it| it.format(Pattern::COMMON_LOG).to_string()).collect();
+            run_loop(call, times, &texts, read_log);
         }
         "from_rule" => run_loop(call, times, given, |words| from_rule(words, zone)),
         "column_offsets" => run_column(call, times, given, |offset| *offset as u64, |words| offsets(words, zone)),

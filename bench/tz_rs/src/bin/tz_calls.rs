@@ -32,7 +32,7 @@ fn words_of(call: &str, option: &str, argument: &str, zone: &TimeZone) -> Words 
     let (instants, locals) = loops::read_words();
     let (mut date_times, mut utc_date_times) = (Vec::new(), Vec::new());
     match call {
-        "display" | "parse" => date_times.extend(instants.iter().map(|instant| DateTime::from_timespec(*instant, 7, zone.as_ref()).unwrap())),
+        "display" | "parse" | "format_log" | "read_log" => date_times.extend(instants.iter().map(|instant| DateTime::from_timespec(*instant, 7, zone.as_ref()).unwrap())),
         "utc_add" | "from_local" => utc_date_times.extend(instants.iter().map(|instant| UtcDateTime::from_timespec(*instant, 7).unwrap())),
         "column_instants" => {
             let of = |local: &Local| UtcDateTime::new(local.year, local.month, local.day, local.hour, local.minute, local.second, 7).unwrap();
