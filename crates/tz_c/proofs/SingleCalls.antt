@@ -1,18 +1,17 @@
 -- Two answers for one value have one code, and one value where that is 0: so a column has what single calls write.
-use Rattle.tz_c.proofs.Common.{refl, inl, inr, subst, ◌≡◌, arith, pos, ◌<◌, ℕ, Zone, length, sym, Some, IsClock, List, Option, slice_index_or, IsLookupFault, ap, ints, slice_get, ◌∙◌, ◌≢◌, IsReading, slice_get_within, suc, zero, Disambiguation, IsDateTimeAt, IsInstantAt, IsOffsetAt, None, slice_get-get_or, ℤ, AreAnswers, AreInstantsBy, IsChoiceAnswer, IsTypeAfter, LocalTimeType, TzError, choice_of, code_of, AreOfLength, DateTime, FitsSigned, IsAnswer, IsAnswerOr, IsClockFault, IsDateTimeDataOf, IsInstantAnswer, IsMeaningAnswer, IsOffset, IsOver, ShowsByClock, buffer_length, fields_code, reading, same_Some, slice_get_cases}
+use Rattle.tz_c.proofs.Common.{refl, inl, inr, ◌≡◌, arith, pos, ◌<◌, ℕ, Zone, length, sym, Some, IsClock, List, Option, slice_index_or, IsLookupFault, ap, slice_get, ◌∙◌, ◌≢◌, IsReading, slice_get_within, suc, zero, Disambiguation, IsDateTimeAt, IsInstantAt, IsOffsetAt, None, slice_get-get_or, ℤ, AreAnswers, AreInstantsBy, IsChoiceAnswer, LocalTimeType, TzError, choice_of, code_of, AreOfLength, DateTime, FitsSigned, IsAnswer, IsAnswerOr, IsClockFault, IsDateTimeDataOf, IsInstantAnswer, IsMeaningAnswer, IsOffset, ShowsByClock, buffer_length, fields_code, reading, same_Some, slice_get_cases}
 use Rattle.std.specs.Int.{w32}
 use Rattle.tz_base.specs.declared.fields.Fields.{Fields}
 use Rattle.tz_base.specs.declared.error.DateTimeError.{DateTimeError}
 use Rattle.tz_base.specs.declared.error.DateTimeError.TheVariants as faults
 use Rattle.tz_base.proofs.LastSeconds.{valid_reading}
-use Rattle.tz_zone.proofs.Clocks.{last_unique, one_type, some_from_last}
-use Rattle.tz_zone.proofs.LeapTimes.{one_leap_time}
+use Rattle.tz_zone.proofs.Clocks.{one_type}
 use Rattle.tz.specs.Meanings.{IsMeaning, IsMeaningFault, instant_meant}
 use Rattle.tz_c.specs.DateTimeData.{date_time_data, date_time_of}
 use Rattle.tz_c.specs.declared.date_time_data.DateTimeData.{DateTimeData}
 use Rattle.tz.specs.declared.datetime.found.FoundDateTimeKind.TheVariants.{Normal, Skipped}
 use Rattle.tz.proofs.UniqueMeanings.{meaning_fault_unique, meaning_or_fault, meaning_unique}
-use Rattle.tz.proofs.UniqueResults.{clock_fault_unique, no_fault_where_shown, shown_unique}
+use Rattle.tz.proofs.UniqueResults.{clock_fault_unique, no_fault_where_shown, no_type_at_fault, shown_unique}
 
 -- a column has an answer at an index: a code, and a value that answers or that was there before
 record HasAnswer {V : Type 0} (IsAnswerAt : ℕ → ℕ → V → Type 0) (before after : List V) (codes : List ℕ) (i : ℕ)
@@ -66,20 +65,6 @@ module _ (z : Zone) (u : ℤ) where
   clock_not_ok n e (inr (inl (_, fault))) = lookup_not_ok e fault
   clock_not_ok n e (inr (inr (is, _, _))) = not_ok 1 e _ is refl (omega arith)
 
-  no_type_when_over : (t : LocalTimeType) → IsOver z u → ¬ IsClock z u t
-  no_type_when_over t (last, l, is_last, leap, from, none) (inl (without, type)) =
-      some_from_last z.transitions last is_last without
-  no_type_when_over t (last, l, is_last, leap, from, none) (inr (last', is_last', (l', leap', inl (before, type)))) =
-      let one_l = one_leap_time z.leap_seconds u l l' leap leap' in
-      let one_last = ap (λ x. x.unix_leap_time) (last_unique z.transitions last last' is_last is_last') in
-      omega (arith, ints, from, before, one_l, one_last)
-  no_type_when_over t (last, l, is_last, leap, from, none) (inr (last', is_last', (l', leap', inr (from', type)))) =
-      subst (λ rule. IsTypeAfter rule u t) none type
-
-  no_type_at_fault : (t : LocalTimeType) (e : TzError) → IsClock z u t → ¬ IsLookupFault z u e
-  no_type_at_fault t e clock (inl (_, over)) = no_type_when_over t over clock
-  no_type_at_fault t e clock (inr (_, none, _)) = none t clock
-
   lookup_fault_unique : (e e' : TzError) → IsLookupFault z u e → IsLookupFault z u e' → e ≡ e'
   lookup_fault_unique e e' fault fault' =
       clock_fault_unique z u 0 e e' (inr (inl (omega arith, fault))) (inr (inl (omega arith, fault')))
@@ -91,8 +76,8 @@ module _ (z : Zone) (u : ℤ) where
   one_offset code other offset t (inl (is, (t', clock', same))) (inl (is', clock)) =
       (is ∙ sym is', λ _. same ∙ ap (λ x. x.ut_offset) (one_type z u t' t clock' clock))
   one_offset code other offset t (inl (is, (t', clock', same))) (inr (e, is', fault)) =
-      absurd (no_type_at_fault t' e clock' fault)
-  one_offset code other offset t (inr (e, is, fault)) (inl (is', clock)) = absurd (no_type_at_fault t e clock fault)
+      absurd (no_type_at_fault z u e fault t' clock')
+  one_offset code other offset t (inr (e, is, fault)) (inl (is', clock)) = absurd (no_type_at_fault z u e fault t clock)
   one_offset code other offset t (inr (e, is, fault)) (inr (e', is', fault')) =
       let same = ap code_of (lookup_fault_unique e e' fault fault') in
       (is ∙ same ∙ sym is', λ ok. absurd (lookup_not_ok e' fault' (sym is' ∙ ok)))
