@@ -20,7 +20,7 @@ use Rattle.tz_base.specs.declared.error.TzStringError.TheVariants as strings
 use Rattle.tz_base.specs.declared.error.TzFileError.{TzFileError}
 use Rattle.tz_base.specs.declared.error.TzFileError.TheVariants as files
 use Rattle.tz.specs.declared.parse.DateTimePart.{DateTimePart}
-use Rattle.tz.specs.declared.parse.DateTimePart.TheVariants as parts
+use Rattle.tz.specs.PartTexts.{part_text}
 use Rattle.tz_c.specs.Codes.{unknown_code}
 use Rattle.tz_c.specs.Texts.{IsTextAnswer}
 
@@ -110,23 +110,6 @@ error_text all.NoAvailableLocalTimeType =
 error_text (all.Memory _) = codes "no memory"
 
 -- what an error of a date time's text prints of the part that is missing
-abbrev pub part_text : DateTimePart → List ℕ
-part_text parts.Year = codes "a year of four digits or more"
-part_text parts.Hyphen = codes "`-`"
-part_text parts.Month = codes "a month from 01 to 12"
-part_text parts.MonthDay = codes "a day of the month"
-part_text parts.Separator = codes "`T` or a space"
-part_text parts.Hour = codes "an hour from 00 to 23"
-part_text parts.Colon = codes "`:`"
-part_text parts.Minute = codes "a minute from 00 to 59"
-part_text parts.Second = codes "a second from 00 to 60"
-part_text parts.Fraction = codes "a fraction of one to nine digits"
-part_text parts.Offset = codes "`Z`, the sign of an offset or the end"
-part_text parts.OffsetHour = codes "the hours of an offset in two digits"
-part_text parts.OffsetMinute = codes "the minutes of an offset from 00 to 59"
-part_text parts.OffsetSecond = codes "the seconds of an offset from 00 to 59"
-part_text parts.End = codes "the end"
-
 abbrev pub expected_text : DateTimePart → List ℕ
 expected_text part = codes "expected " ++ part_text part
 

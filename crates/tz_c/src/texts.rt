@@ -11,7 +11,9 @@ ghost use Rattle.tz_zone.specs.TzText.{IsTzText};
 ghost use Rattle.tz_zone.specs.TzTextFault.{IsTzTextFault};
 ghost use Rattle.tz_zone.specs.ZoneNames.{IsZoneName};
 ghost use Rattle.tz.specs.PrintedText.{printed_text};
-ghost use Rattle.tz_c.specs.Codes.{IsAnswerOr, invalid_name, IsAnswer, IsAnswerBy, file_code};
+ghost use Rattle.tz.specs.TzStrings.{tz_text};
+ghost use Rattle.tz_c.specs.Codes.{IsAnswerOr, invalid_name, no_tz_string, IsAnswer, IsAnswerBy};
+ghost use Rattle.tz_c.specs.Codes.{file_code};
 ghost use Rattle.tz_c.specs.Files.{GivesTextRule};
 ghost use Rattle.tz_c.specs.RuleData.{rule_given};
 ghost use Rattle.tz_c.specs.Rules.{rule_of_lists};
@@ -87,6 +89,8 @@ pub extern "C" fn tz_rule_text(
 ) -> u32
     ensures answer { IsRuleTextAnswer (rule_of_lists fixed.now alternate.now) result text.old
         text.new len.new }
+    ensures most { (rule : TransitionRule) → rule_of_lists fixed.now alternate.now ≡ Some rule
+        → result ≢ no_tz_string → length (tz_text rule) ≤ 114 }
     ensures text_kept { result ≢ 0 → text.new ≡ text.old }
     ensures len_kept { result ≢ 0 → len.new ≡ len.old }
 {
