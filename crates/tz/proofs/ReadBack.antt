@@ -218,7 +218,8 @@ in_parts f z = simp append_assoc
 -- the local time of a printed text is read, whatever the offset after it
 pub printed_local : (f : Fields) (z : ℤ) → IsValid f → ¬ IsPastTheEnd f → FitsSigned w32 f.year
     → date.reads (printed_text f z) (fields_of f.year f.month f.month_day 0 0 0 0) (after_date f z)
-    × (time (fields_of f.year f.month f.month_day 0 0 0 0)).reads (two_digits f.hour ++ after_hour f z) f (offset_text z)
+    × (time (fields_of f.year f.month f.month_day 0 0 0 0)).reads (two_digits f.hour ++ after_hour f z) f
+    (offset_text z)
 unfolding after_year after_month after_date after_hour after_minute after_second
 printed_local f z valid not_past fits =
     let r = valid.in_range in

@@ -19,8 +19,8 @@ IsWithin {A} begins = (text : List ℕ) (v : A) (rest : List ℕ) → begins tex
 
 pub record IsExact {A : Type 0} (g : Grammar A) : Type 0 where
   pub read : IsUnique g.reads
-  pub missing : (text : List ℕ) (e e' : DateTimePart) (rest rest' : List ℕ) → g.misses text e rest → g.misses text e' rest'
-      → (e ≡ e') × (rest ≡ rest')
+  pub missing : (text : List ℕ) (e e' : DateTimePart) (rest rest' : List ℕ) → g.misses text e rest
+      → g.misses text e' rest' → (e ≡ e') × (rest ≡ rest')
   pub either : (text : List ℕ) (v : A) (e : DateTimePart) (rest rest' : List ℕ) → g.reads text v rest
       → ¬ g.misses text e rest'
   pub read_within : IsWithin g.reads
@@ -51,8 +51,8 @@ moved : {A B : Type 0} (next : A → Grammar B) (v v' : A) (after after' : List 
 moved next v v' after after' same P holds =
     subst (λ x. P (next x) after) (sym same.0) (subst (P (next v')) (sym same.1) holds)
 
-pub exact_then : {A B : Type 0} (first : Grammar A) (next : A → Grammar B) → IsExact first → ((v : A) → IsExact (next v))
-    → IsExact (first ▸ next)
+pub exact_then : {A B : Type 0} (first : Grammar A) (next : A → Grammar B) → IsExact first
+    → ((v : A) → IsExact (next v)) → IsExact (first ▸ next)
 exact_then {A} {B} first next exact exacts = record {
   read = read;
   missing = missing;

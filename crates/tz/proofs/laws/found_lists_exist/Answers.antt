@@ -16,5 +16,5 @@ returns c valid made =
     let f = fields_of a.year a.month a.month_day a.hour a.minute a.second a.nanoseconds in
     let fits : SFits w32 a.year = search rules in
     let same = to_z-of_z w32 a.year fits in
-    list_of (zone_of a.zone.now) f c.meaning.result (rw same at c.meaning.ensures.ok) (rw same at c.meaning.ensures.outcome)
-    valid made
+    list_of (zone_of a.zone.now) f c.meaning.result (rw same at c.meaning.ensures.ok)
+    (rw same at c.meaning.ensures.outcome) valid made

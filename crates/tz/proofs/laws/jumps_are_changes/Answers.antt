@@ -25,9 +25,11 @@ returns-clause-change c f before after found valid fits is has =
       record {
         not_least = omega (arith, ints, near.0, over.1, offset', shows'.instant_is);
         up_to = omega (arith, ints, near.1, over.0, offset, shows'.instant_is);
-        before_is = subst (λ (t : LocalTimeType). IsClock (zone_of c.args.zone.now) (after.unix_time -ℤ pos 1) t) (sym shows.type_is)
+        before_is = subst (λ (t : LocalTimeType). IsClock (zone_of c.args.zone.now) (after.unix_time -ℤ pos 1) t)
+            (sym shows.type_is)
             (subst (λ (v : ℤ). IsClock (zone_of c.args.zone.now) (v -ℤ pos 1) a) (sym shows'.instant_is) clock);
-        after_is = subst (λ (t : LocalTimeType). IsClock (zone_of c.args.zone.now) after.unix_time t) (sym shows'.type_is)
+        after_is = subst (λ (t : LocalTimeType). IsClock (zone_of c.args.zone.now) after.unix_time t)
+            (sym shows'.type_is)
             (subst (λ (v : ℤ). IsClock (zone_of c.args.zone.now) v b) (sym shows'.instant_is) clock');
         differ = λ same. omega (
           arith,
