@@ -449,7 +449,7 @@ impl<'a, A: Allocator + Copy> Answers<'a, A> {
 }
 
 /// The Unix time at which the first day begins in UTC, or the first error in the fields.
-fn first_day_begins(first: &Fields) -> Result<i64, DateTimeError>
+pub fn first_day_begins(first: &Fields) -> Result<i64, DateTimeError>
     ensures ok { IfOk result (λ begins. (begins ≡ midnight (day_of first.now)) × IsSmall begins) }
     ensures valid { OnOk result (IsValid first.now) }
     ensures err { IfErr result (IsFirstFault first.now) }
@@ -469,7 +469,7 @@ fn first_day_begins(first: &Fields) -> Result<i64, DateTimeError>
 }
 
 /// The fields a number of weeks later, if their year is one of 32 bits.
-fn week_of(first: &Fields, begins: i64, weeks: u8) -> Option<Fields>
+pub fn week_of(first: &Fields, begins: i64, weeks: u8) -> Option<Fields>
     requires day { begins ≡ midnight (day_of first.now) }
     requires small { IsSmall begins }
     ensures some { IfSome result (IsWeekOf first.now weeks) }

@@ -1,9 +1,9 @@
 //! Queries, a line each, and their answers.
 
-mod answers;
+pub(crate) mod answers;
 mod output;
 mod program;
-mod read_query;
+pub(crate) mod read_query;
 
 pub use answers::{answer, answer_tzif};
 pub use output::{RunFault, run};

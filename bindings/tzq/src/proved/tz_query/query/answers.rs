@@ -342,7 +342,7 @@ impl<'a, A: Allocator + Copy> Answers<'a, A> {
 }
 
 /// The Unix time at which the first day begins in UTC, or the first error in the fields.
-fn first_day_begins(first: &Fields) -> Result<i64, DateTimeError> {
+pub fn first_day_begins(first: &Fields) -> Result<i64, DateTimeError> {
     // Second 60 belongs to the next minute, which may be of the next day, or of no year.
     let second = if first.second == 60 { 59 } else { first.second };
     let (year, month, month_day) = (first.year, first.month, first.month_day);
@@ -358,7 +358,7 @@ fn first_day_begins(first: &Fields) -> Result<i64, DateTimeError> {
 }
 
 /// The fields a number of weeks later, if their year is one of 32 bits.
-fn week_of(first: &Fields, begins: i64, weeks: u8) -> Option<Fields> {
+pub fn week_of(first: &Fields, begins: i64, weeks: u8) -> Option<Fields> {
     let unix_time = begins + SECONDS_PER_WEEK * i64::from(weeks);
     let day = UtcDateTime::from_timespec(unix_time, 0).ok()?;
     Some(Fields {

@@ -1,10 +1,10 @@
 // Generated from crates/tz_query/src/query/mod.rt by bindings/erase: its contracts are cut. Change that file instead.
 //! Queries, a line each, and their answers.
 
-mod answers;
+pub(crate) mod answers;
 mod output;
 pub(crate) mod program;
-mod read_query;
+pub(crate) mod read_query;
 
 pub use answers::{answer, answer_tzif};
 pub use output::{RunFault, run};
