@@ -89,7 +89,7 @@ PACKAGES = (
         folder="bindings/c/src/proved",
         crates=("tz_c",),
         root="crate::proved",
-        skipped=("crates/tz_c/src/laws.rt",),
+        skipped=("crates/tz_c/src/file_laws.rt", "crates/tz_c/src/laws.rt"),
         by_hand={"": "bindings/c/src/proved/mod.rs"},
         others={
             name: f"tz::proved::{name}"
@@ -179,7 +179,7 @@ LEFT_OUT = {
     # In Rust constants are checked by tests.
     "crates/tz_format/src/lib.rt": {"constants", "laws"},
     "crates/tz_query/src/lib.rt": {"laws"},
-    "crates/tz_c/src/lib.rt": {"laws"},
+    "crates/tz_c/src/lib.rt": {"file_laws", "laws"},
     # In Rust one implementation is for all that is a `TzError`.
     "crates/tz_base/src/error.rt": {"From for Error"},
     # In Rust the current time is no argument.

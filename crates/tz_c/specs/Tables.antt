@@ -7,6 +7,7 @@ use Rattle.tz_zone.specs.Offsets.{AreEndOffsets}
 use Rattle.tz_zone.specs.Table.{LeapSecond, Transition, Zone, zone_with}
 use Rattle.tz_zone.specs.TzFile.{IsTzFile}
 use Rattle.tz_zone.specs.TzFileFault.{IsReadFault}
+use Rattle.tz_zone.specs.declared.parse.tz_file.FileSizes.{FileSizes}
 use Rattle.tz_c.specs.Codes.{buffer_length, code_of}
 use Rattle.tz_c.specs.declared.zones.OffsetsData.{OffsetsData}
 use Rattle.tz_c.specs.RuleData.{rule_given}
@@ -37,4 +38,19 @@ abbrev pub IsOnlyReadAnswer : Zone → ℕ → Zone → Type 0
 IsOnlyReadAnswer zone code z =
     ((code ≡ 0) × (z ≡ zone))
     ⊎ ((code ≡ buffer_length) × ¬ HaveSameLengths zone z)
+    ⊎ (code ≡ code_of (Memory alloc_error))
+
+-- slices have the lengths of a file's tables
+pub record AreOfSizes (sizes : FileSizes) (transitions : List Transition)
+    (types : List LocalTimeType) (leap_seconds : List LeapSecond) : Type 0 where
+  pub transitions_are : length transitions ≡ sizes.transitions
+  pub types_are : length types ≡ sizes.local_time_types
+  pub leap_seconds_are : length leap_seconds ≡ sizes.leap_seconds
+
+-- a reading of the file of a zone into such slices, or into others: these are refused, and those
+-- are not, unless memory is out
+abbrev pub IsReadBySizes : ℕ → Type 0 → Type 0
+IsReadBySizes code sized =
+    ((code ≡ 0) × sized)
+    ⊎ ((code ≡ buffer_length) × ¬ sized)
     ⊎ (code ≡ code_of (Memory alloc_error))

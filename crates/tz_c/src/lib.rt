@@ -7,6 +7,7 @@ mod columns;
 mod date_time_data;
 mod date_times;
 mod dates;
+pub mod file_laws;
 mod formats;
 pub mod laws;
 mod rule_data;
