@@ -7,6 +7,7 @@ pub(crate) mod columns;
 pub(crate) mod date_time_data;
 pub(crate) mod date_times;
 pub(crate) mod dates;
+
 pub(crate) mod formats;
 
 pub(crate) mod rule_data;
