@@ -87,7 +87,16 @@ fn searches_have_answers(zone: &TimeZoneRef<'_>, fields: &Fields)
     let (year, month, month_day) = (fields.year, fields.month, fields.month_day);
     let (hour, minute, second) = (fields.hour, fields.minute, fields.second);
     let nanoseconds = fields.nanoseconds;
-    let _ = DateTime::meaning(year, month, month_day, hour, minute, second, nanoseconds, *zone);
+    let _ = DateTime::meaning(
+        year,
+        month,
+        month_day,
+        hour,
+        minute,
+        second,
+        nanoseconds,
+        *zone,
+    );
 }
 
 /// A meeting has answer lines: those of its fields in each week, or of their first error.

@@ -32,4 +32,6 @@ returns c =
     (meeting_lines weeks, inl (c.in-Ok.ensures.valid, weeks, count, are, refl))
 
 pub returns-in-Err : goal.returns-in-Err
-returns-in-Err c = ((codes "E " ++ field_fault_text c.in-Err.field-0) ∷ [], inr (c.in-Err.field-0, c.in-Err.ensures.err, refl))
+returns-in-Err c =
+    let fault = c.in-Err.field-0 in
+    ((codes "E " ++ field_fault_text fault) ∷ [], inr (fault, c.in-Err.ensures.err, refl))

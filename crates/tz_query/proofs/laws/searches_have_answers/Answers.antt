@@ -10,14 +10,24 @@ refused : (z : Zone) (f : Fields) (e : TzError) → IsFindFault ⊥ (IsClock z) 
     → (answer : List (List ℕ)) × IsSearchAnswer z f answer
 refused z f e (inl (fault, is, first)) = (
   (codes "E " ++ field_fault_text fault) ∷ [],
-  inr (e, field_fault_text fault, inl (fault, is, first),
-      subst (λ x. IsFaultText x (field_fault_text fault)) (sym is) refl, refl),
+  inr (
+    e,
+    field_fault_text fault,
+    inl (fault, is, first),
+    subst (λ x. IsFaultText x (field_fault_text fault)) (sym is) refl,
+    refl,
+  ),
 )
 refused z f e (inr (valid, inl (is, none))) = absurd none
 refused z f e (inr (valid, inr (is, one))) = (
   (codes "E " ++ codes "OutOfRange") ∷ [],
-  inr (e, codes "OutOfRange", inr (valid, inr (is, one)),
-      subst (λ x. IsFaultText x (codes "OutOfRange")) (sym is) refl, refl),
+  inr (
+    e,
+    codes "OutOfRange",
+    inr (valid, inr (is, one)),
+    subst (λ x. IsFaultText x (codes "OutOfRange")) (sym is) refl,
+    refl,
+  ),
 )
 
 has_answer : (z : Zone) (f : Fields) (r : Result Meaning TzError) → IfOk r (HasMeaning z f)
