@@ -145,7 +145,10 @@ fn a_file_is_read_up_to_a_limit(rt: HostRuntime) -> Result<(), Fail> {
     ];
     let alloc = rt.alloc();
     let letters = "x".repeat(alloc, 220)?;
-    let name = format!(in alloc; "tz-read-file-up-to-{}-{letters}", process::id(rt.process()))?;
+    let name = format!(in alloc;
+        "tz-read-file-up-to-{}-{letters}",
+        process::id(rt.process())
+    )?;
     let path = env::temp_dir(&rt)?.join(alloc, name.as_str())?;
     expect_up_to(&rt, alloc, path.as_str(), &ROWS)
 }

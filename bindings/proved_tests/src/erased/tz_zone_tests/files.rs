@@ -158,7 +158,10 @@ fn a_file_is_read_up_to_a_limit() -> Result<(), Fail> {
     ];
     let alloc = rt.alloc();
     let letters = "x".repeat_in(alloc, 220)?;
-    let name = format_in!(alloc; "tz-read-file-up-to-{}-{letters}", process::id(rt.process()))?;
+    let name = format_in!(alloc;
+        "tz-read-file-up-to-{}-{letters}",
+        process::id(rt.process())
+    )?;
     let path = env::temp_dir(&rt)?.join(alloc, name.as_str())?;
     expect_up_to(&rt, alloc, path.as_str(), &ROWS)
 }

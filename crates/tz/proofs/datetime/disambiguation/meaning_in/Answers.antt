@@ -225,11 +225,12 @@ returns-in_default-first c =
     let has = rw (to_z-of_z w64 c.reading-reading.result (search rules)
     ∙ c.reading-reading.ensures.value) at c.in_ok-ends.ensures.ok in
     let more : AreMore has.0 = elim c.in_default-first.branch [
-      in_default-first-via-in-Shown-2+else-ends-eq2 w ↦
-      more_than_two has.0 c.in_ok-ends.ends has.3 c.in-Some.first c.in-Some.is w.if-ends-eq1.false w.if-ends-eq2.false
+      | in_default-first-via-in-Shown-2+else-ends-eq2 w ↦
+          more_than_two has.0 c.in_ok-ends.ends has.3 c.in-Some.first c.in-Some.is w.if-ends-eq1.false
+          w.if-ends-eq2.false
       | in_default-first-via-in-Jump+else-ends-eq1-2 w ↦
-      more_than_jump has.0 c.in_ok-ends.ends has.3 _ _ _
-      (c.in-Some.is ∙ ap (λ (e : LentEntry). Some e) w.in-Jump.is) w.if-ends-eq1-2.false
+          more_than_jump has.0 c.in_ok-ends.ends has.3 _ _ _
+          (c.in-Some.is ∙ ap (λ (e : LentEntry). Some e) w.in-Jump.is) w.if-ends-eq1-2.false
     ] in
     record {
       ok = subst (λ (n : ℕ). HasMeaning z f (More n)) (sym has.3.count_is)
