@@ -63,7 +63,7 @@ pub use Rattle.tz_zone.specs.TzText.{Begins, IsTimeUpTo, IsNumber, IsRuleText, I
 pub use Rattle.tz_zone.specs.ValidZone.{AreLeapSeconds, IsSoundTable}
 pub use Rattle.tz_zone.specs.ZoneOfData.{zone_of_data}
 pub use Rattle.tz.specs.Buffers.{placed}
-pub use Rattle.tz.specs.DateTimeText.{IsPair, IsDateTimeText, IsFraction, date, time, AreYearDigits, IsDigits, IsYear, duration, offset, EndsDigits, IsHours, IsSecond, IsSeconds, IsByte, IsDateTimeTextFault, IsEnd, IsMark, IsMinutes, IsSeparator, after_mark, byte, date_time}
+pub use Rattle.tz.specs.DateTimeGrammar.{IsPair, IsDateTimeText, IsFraction, date, time, AreYearDigits, IsDigits, IsYear, duration, offset, EndsDigits, IsHours, IsSecond, IsSeconds, IsByte, IsDateTimeTextFault, IsEnd, IsMark, IsMinutes, IsSeparator, after_mark, byte, date_time}
 pub use Rattle.tz.specs.DateTimes.{DateTime, ShowsByClock, IsClockFault, IsPastTheEnd, IsUtc, ShowsInstant, moment_of, IsDateTime, IsUtcTotal, moment_cmp, total_of, utc_total}
 pub use Rattle.tz.specs.Ends.{entry_of, AreMore, GainsInside, HasInside, IsEndsOf, IsOutsideFault, first_entry, gains_more, gains_none, instant_between}
 pub use Rattle.tz.specs.Entries.{Shown, Jump, Entry, IsEntryInside, HasTwoTypes, IsEntryIn, lent_type, AreEntries, IsEntryOf, IsRefused, AreEntriesBefore, HoldsAt, IsEarlier, IsEntryOutside, IsGiven, IsTaker}

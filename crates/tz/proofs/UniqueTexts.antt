@@ -1,7 +1,7 @@
 -- A text of a date time has one reading, or one part that is missing first, and not both, and neither is followed by
 -- more bytes than the text has: this holds of each part, and so of parts in turn.
 use Rattle.tz.proofs.Common.{arith, refl, ◌≡◌, subst, ◌∙◌, inr, sym, inl, [], ap, ℕ, ◌∷◌, List, length, ◌+◌, pos, Fields, Some, ◌≤◌, ◌*◌, ◌-◌, ◌^◌, None, digits_value, fields_of, two_digits, length-append, drop, if◌then◌else◌, IsPair, neg_ℤ, IsDateTimeText, IsFraction, date, is_leap, time, Ahead, Behind, IsDigits, IsYear, Utc, duration, length-drop, month_length, offset, ◌==◌, Absent, IsHours, IsSecond, IsSeconds, ParsedDateTime, IsByte, IsDateTimeTextFault, IsEnd, IsMark, IsMinutes, IsSeparator, after_mark, byte, date_time}
-use Rattle.tz.specs.Grammars.{Grammar, one, ◌▸◌, done}
+use Rattle.tz.specs.GrammarSteps.{Grammar, one, ◌▸◌, done}
 use Rattle.tz.specs.declared.parse.ParseDateTimeError.{ParseDateTimeError}
 use Rattle.tz.specs.declared.parse.DateTimePart.{DateTimePart}
 use Rattle.tz.specs.declared.parse.DateTimePart.TheVariants as parts

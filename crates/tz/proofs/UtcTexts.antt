@@ -1,7 +1,7 @@
 -- A text of a UTC date time has one reading, or one part that is missing first, and it is a text of the same local
 -- time at offset 0.
 use Rattle.tz.proofs.Common.{arith, refl, ◌≡◌, ap, [], ℕ, List, length, pos, Fields, Some, ◌≤◌, Utc, IsDateTimeText}
-use Rattle.tz.specs.Grammars.{one}
+use Rattle.tz.specs.GrammarSteps.{one}
 use Rattle.tz.specs.UtcText.{IsUtcMark, utc_date_time, IsUtcText, IsUtcTextFault}
 use Rattle.tz.specs.declared.parse.ParseDateTimeError.{ParseDateTimeError}
 use Rattle.tz.specs.declared.parse.DateTimePart.{DateTimePart}

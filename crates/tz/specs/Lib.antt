@@ -13,12 +13,12 @@ pub mod Windows
 pub mod FindFaults
 pub mod Outcomes
 pub mod PrintedText
-pub mod Grammars
-pub mod DateTimeText
+pub mod TzStrings
+pub mod GrammarSteps
+pub mod DateTimeGrammar
 pub mod PartTexts
 pub mod UtcText
 pub mod PrintedBytes
-pub mod TzStrings
 pub mod UtcConstants
 pub mod Lists
 pub mod LentSlots

@@ -1,8 +1,8 @@
 -- Texts of UTC date times: RFC 3339, section 5.6, with `Z` for the offset.
 use Rattle.std.specs.Prelude.{◌≡◌, ℕ, ◌+◌, List, [], length}
 use Rattle.tz_base.specs.declared.fields.Fields.{Fields}
-use Rattle.tz.specs.DateTimeText.{date, time, IsSeparator, IsMark, IsEnd}
-use Rattle.tz.specs.Grammars.{Grammar, one, ◌▸◌, done}
+use Rattle.tz.specs.DateTimeGrammar.{date, time, IsSeparator, IsMark, IsEnd}
+use Rattle.tz.specs.GrammarSteps.{Grammar, one, ◌▸◌, done}
 use Rattle.tz.specs.declared.parse.DateTimePart.TheVariants as parts
 use Rattle.tz.specs.declared.parse.OffsetMark.TheVariants.{Utc}
 use Rattle.tz.specs.declared.parse.ParseDateTimeError.{ParseDateTimeError}

@@ -28,7 +28,7 @@ ghost use Rattle.tz.specs.Meanings.{IsMeaning, IsMeaningFault};
 ghost use Rattle.tz.specs.LocalMeanings.{ChoicesAgree, HasMeaning};
 ghost use Rattle.tz.specs.Windows.{IsWindow, TakesEffectIn, AreRising, AtMostTakeEffectIn};
 ghost use Rattle.tz.specs.PrintedText.{printed_text};
-ghost use Rattle.tz.specs.DateTimeText.{IsDateTimeText, IsDateTimeTextFault, IsTextOf};
+ghost use Rattle.tz.specs.DateTimeGrammar.{IsDateTimeText, IsDateTimeTextFault, IsTextOf};
 ghost use Rattle.tz.specs.UtcText.{IsUtcText, IsUtcTextFault};
 ghost use Rattle.tz.specs.declared.parse.ParsedDateTime.{ParsedDateTime};
 ghost use Rattle.tz.specs.declared.parse.ParseDateTimeError.{ParseDateTimeError};

@@ -10,10 +10,10 @@ ghost use Rattle.std.specs.Int.{w32};
 ghost use Rattle.std.specs.Str.Parse.{AllDigits, digits_value};
 ghost use Rattle.tz_base.specs.Fields.{IsValid};
 ghost use Rattle.tz_rule.specs.LocalTimeType.{IsOffset};
-ghost use Rattle.tz.specs.DateTimeText.{IsDigits, AreYearDigits, IsYear, IsPair, IsFraction};
-ghost use Rattle.tz.specs.DateTimeText.{IsSecond, IsSeparator, date, time, IsMark, IsHours};
-ghost use Rattle.tz.specs.DateTimeText.{IsMinutes, IsSeconds, duration, offset, date_time};
-ghost use Rattle.tz.specs.DateTimeText.{IsDateTimeText, IsDateTimeTextFault};
+ghost use Rattle.tz.specs.DateTimeGrammar.{IsDigits, AreYearDigits, IsYear, IsPair, IsFraction};
+ghost use Rattle.tz.specs.DateTimeGrammar.{IsSecond, IsSeparator, date, time, IsMark, IsHours};
+ghost use Rattle.tz.specs.DateTimeGrammar.{IsMinutes, IsSeconds, duration, offset, date_time};
+ghost use Rattle.tz.specs.DateTimeGrammar.{IsDateTimeText, IsDateTimeTextFault};
 ghost use Rattle.tz.specs.PrintedBytes.{IsDigitByte, AreBetween, AreDigitsFrom20};
 ghost use Rattle.tz.specs.PrintedText.{two_digits, nine_digits, offset_text, printed_text};
 

@@ -1,6 +1,6 @@
 -- What the reader of printed date times answers, and the code of each part that it can miss.
 use Rattle.std.specs.Prelude.{◌≡◌, ◌⊎◌, ℕ, false, pos, List, Some, None, if◌then◌else◌}
-use Rattle.tz.specs.DateTimeText.{IsDateTimeText, IsDateTimeTextFault}
+use Rattle.tz.specs.DateTimeGrammar.{IsDateTimeText, IsDateTimeTextFault}
 use Rattle.tz.specs.declared.parse.DateTimePart.{DateTimePart}
 use Rattle.tz.specs.declared.parse.DateTimePart.TheVariants as parts
 use Rattle.tz.specs.declared.parse.ParseDateTimeError.{ParseDateTimeError}

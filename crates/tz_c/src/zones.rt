@@ -5,7 +5,7 @@ ghost use Rattle.tz_rule.specs.declared.timezone.rule_day.RuleDay.TheVariants as
 ghost use Rattle.tz_base.specs.declared.error.TzError.TheVariants as faults;
 ghost use Rattle.std.specs.Prelude.{◌≡◌, ◌≢◌, MatchOption, ◌≤ℤ◌, ◌<◌, ◌++◌, ◌⊎◌, ℕ, slice_get};
 ghost use Rattle.tz_rule.specs.Alternate.{alternate_of};
-ghost use Rattle.tz_rule.specs.JulianDay.{IsJulianDay, IsZeroBasedDay};
+ghost use Rattle.tz_rule.specs.RuleDayNumbers.{IsJulianDay, IsZeroBasedDay};
 ghost use Rattle.tz_rule.specs.LocalTimeType.{type_of};
 ghost use Rattle.tz_rule.specs.MonthWeek.{IsMonthWeek, IsFirstMonthWeekFault, month_week};
 ghost use Rattle.tz_zone.specs.Changes.{IsTrueSegment, IsFollowing, IsPreceding, HasNoFollowing};
@@ -32,7 +32,7 @@ use tz_rule::inner::{AlternateData, DayData, RuleRef, find_local_time_type};
 use tz_rule::timezone::{
     AlternateTime, Julian0WithLeap, Julian1WithoutLeap, LocalTimeType, MonthWeekDay, RuleDay,
 };
-use tz_zone::inner::{self, effect, leap};
+use tz_zone::inner::{self, effect, unix_time_to_unix_leap_time};
 use tz_zone::timezone::{Change, LeapSecond, Segment, Transition};
 
 /// The local time type with these parts, as `LocalTimeType::new` makes it.
@@ -459,7 +459,7 @@ pub extern "C" fn tz_zone_leap_time(zone: &TzZone<'_>, unix_time: i64, out: &mut
         unix_time) }
     ensures kept { result ≢ 0 → out.new ≡ out.old }
 {
-    match leap(zone.parts.leap_seconds, unix_time) {
+    match unix_time_to_unix_leap_time(zone.parts.leap_seconds, unix_time) {
         Ok(leap_time) => {
             *out = leap_time;
             OK

@@ -6,7 +6,7 @@ use Rattle.std.specs.Prelude.{FitsSigned}
 use Rattle.std.specs.Int.{w32}
 use Rattle.tz_base.specs.Fields.{IsValid}
 use Rattle.tz_base.proofs.CivilReadings.{month_length-le}
-use Rattle.tz.specs.DateTimeText.{IsDateTimeText}
+use Rattle.tz.specs.DateTimeGrammar.{IsDateTimeText}
 use Rattle.tz.specs.PrintedText.{date_text, nine_digits, offset_text, printed_text, time_text, two_digits}
 use Rattle.tz.specs.declared.parse.ParseDateTimeError.{ParseDateTimeError}
 use Rattle.tz.specs.declared.parse.ParsedDateTime.{ParsedDateTime}

@@ -1,7 +1,7 @@
 -- Texts of dates: full-date of RFC 3339, section 5.6, with years as they are printed. A full-date
 -- is what makes a date-time with `T` and a time after it.
 use Rattle.std.specs.Prelude.{◌≡◌, ℕ, ◌<◌, ◌≤◌, ◌⊎◌, List, [], ◌∷◌, ◌++◌, length}
-use Rattle.tz.specs.DateTimeText.{IsDateTimeText, IsDateTimeTextFault}
+use Rattle.tz.specs.DateTimeGrammar.{IsDateTimeText, IsDateTimeTextFault}
 use Rattle.tz.specs.declared.parse.DateTimePart.{DateTimePart}
 use Rattle.tz.specs.declared.parse.DateTimePart.TheVariants.{Separator, End}
 use Rattle.tz.specs.declared.parse.ParseDateTimeError.{ParseDateTimeError}

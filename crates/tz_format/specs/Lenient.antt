@@ -2,7 +2,7 @@
 -- name of a time zone in brackets after them (RFC 9557, section 3).
 use Rattle.std.specs.Prelude.{ℕ, ◌+◌, ◌-◌, ◌≤◌, ◌≡◌, ◌==◌, ◌&&◌, ◌||◌, nat_lt, nat_le, if◌then◌else◌, Bool, List, [], ◌∷◌, ◌++◌, length, take, drop, slice_index, Option, Some, None, ◌⊎◌, codes}
 use Rattle.std.specs.List.{list_all, position_from}
-use Rattle.tz.specs.DateTimeText.{IsDateTimeText, IsDateTimeTextFault}
+use Rattle.tz.specs.DateTimeGrammar.{IsDateTimeText, IsDateTimeTextFault}
 use Rattle.tz.specs.declared.parse.ParsedDateTime.{ParsedDateTime}
 use Rattle.tz_format.specs.declared.lenient.LenientDateTimeError.{LenientDateTimeError}
 use Rattle.tz_format.specs.declared.lenient.LenientDateTimeError.TheVariants.{ZoneName, DateTime}

@@ -6,7 +6,7 @@ ghost use Rattle.std.specs.List.{list_all, position_from};
 ghost use Rattle.std.specs.Prelude.{MatchOption, MatchBool, IfSome, ◌==◌, ◌<◌};
 ghost use Rattle.tz_format.specs.Lenient.{is_name_byte, zoned, is_separator, is_offset_mark};
 ghost use Rattle.tz_format.specs.Lenient.{whole_seconds, whole, IsLenientText, IsLenientFault};
-ghost use Rattle.tz.specs.DateTimeText.{IsDateTimeText, IsDateTimeTextFault};
+ghost use Rattle.tz.specs.DateTimeGrammar.{IsDateTimeText, IsDateTimeTextFault};
 ghost use Rattle.std.specs.Prelude.{◌+◌, ◌++◌};
 
 use crate::line::Line;

@@ -22,7 +22,7 @@ pub use Rattle.std.specs.declared.num.TryFromIntError.{TryFromIntError}
 pub use mir.Syntax.{w64, w32}
 pub use mir.Val.{SFits}
 pub use Rattle.core.proofs.dec2flt.DigitsLemmas.{is_digit, digit_range}
-pub use Rattle.tz.specs.DateTimeText.{EndsDigits, IsDigits}
+pub use Rattle.tz.specs.DateTimeGrammar.{EndsDigits, IsDigits}
 pub use Rattle.tz.specs.DateTimes.{DateTime, moment_of, IsClockFault, IsUtc, ShowsInstant}
 pub use Rattle.tz.specs.Entries.{AreEntries, Shown, Entry, Jump}
 pub use Rattle.tz.specs.Found.{Clock, IsFoundBy, IsFound}

@@ -1,7 +1,7 @@
 -- Numbers as lines have them.
 use Rattle.std.specs.Prelude.{◌≡◌, ℕ, ◌⊎◌, ℤ, pos, neg_ℤ, List, [], ◌∷◌, ◌++◌}
 use Rattle.std.specs.Str.Parse.{IsNumeral, digits_value}
-use Rattle.tz.specs.DateTimeText.{EndsDigits}
+use Rattle.tz.specs.DateTimeGrammar.{EndsDigits}
 
 -- the sign of a negative number, and what stands before each number
 abbrev pub hyphen : ℕ

@@ -28,7 +28,7 @@ pub use Rattle.tz_base.specs.Days.{first_day, year_length, day_number}
 unfoldable pub use Rattle.tz_base.specs.Days.{is_leap, week_day_of, month_length, months_length}
 pub use Rattle.tz_rule.specs.Alternate.{AlternateTime, AreRuleDays, IsInRuleRange, switch_of, IsAlternateType, IsInRuleYears, IsUtcYear, IsConsistentRule, IsNearYear, IsRuleOffset, IsRuleTime, IsRuleYear, IsUnchanged}
 unfoldable pub use Rattle.tz_rule.specs.Alternate.{end_of, start_of}
-pub use Rattle.tz_rule.specs.Designation.{IsKept, kept, word_of, IsKeptType, kept_stored_name, same_designation, seven_bytes, shown, stored_name}
+pub use Rattle.tz_rule.specs.KeptDesignation.{IsKept, kept, word_of, IsKeptType, kept_stored_name, same_designation, seven_bytes, shown, stored_name}
 pub use Rattle.tz_rule.specs.Kinds.{kind_of, IsPairOf, is_leap_kind, week_day_of_kind}
 unfoldable pub use Rattle.tz_rule.specs.Kinds.{first_kind, week_day_of_year, year_kind, second_kind, first_days}
 pub use Rattle.tz_rule.specs.LikelyYears.{moved_back, HasInnerSwitches, IsDeterminingYear, IsLikelyYear, IsTriedYear, IsInnerSwitch}

@@ -1,8 +1,8 @@
 pub use Rattle.tz_base.specs.Days
 pub use Rattle.tz_base.specs.Fields
 pub mod LocalTimeType
-pub mod Designation
-pub mod JulianDay
+pub mod KeptDesignation
+pub mod RuleDayNumbers
 pub mod MonthWeek
 pub mod Kinds
 pub mod YearDays

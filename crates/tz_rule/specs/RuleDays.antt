@@ -3,7 +3,7 @@
 use Rattle.std.specs.Prelude.{ℕ, zero, suc, ◌-◌, ◌==◌, ◌&&◌, not, Bool, ℤ, pos, ◌+ℤ◌, List, [], ◌∷◌, filter, length, slice_index_or, if◌then◌else◌}
 use Rattle.std.specs.Ordering.{int_eq}
 use Rattle.tz_base.specs.Days.{is_leap, year_length, month_length, first_day, day_number, week_day_of}
-use Rattle.tz_rule.specs.JulianDay.{IsJulianDay, IsZeroBasedDay}
+use Rattle.tz_rule.specs.RuleDayNumbers.{IsJulianDay, IsZeroBasedDay}
 use Rattle.tz_rule.specs.MonthWeek.{IsMonthWeek}
 use Rattle.tz_rule.specs.declared.timezone.rule_day.RuleDay.{RuleDay}
 use Rattle.tz_rule.specs.declared.timezone.rule_day.RuleDay.TheVariants.{Julian1WithoutLeap, Julian0WithLeap, MonthWeekDay}

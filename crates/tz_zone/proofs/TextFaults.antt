@@ -2,7 +2,7 @@
 use Rattle.tz_zone.proofs.Common.{◌≡◌, arith, ℕ, refl, sym, inr, inl, ◌∙◌, subst, ◌<◌, ap, List, Some, pos, ◌≤◌, [], Option, ◌≢◌, None, false, ◌∷◌, ◌⊎◌, true, Bool, TransitionRule, ◌++◌, Err, Ok, Result, TzError, ◌^◌, IsNumber, AlternateText, Fixed, IsAlternateText, IsRuleText, Begins, IsDaylightOffset, IsFirstTypeFault, IsMonthWeekText, IsName, IsSignedTime, IsTzTextFault, LocalTimeTypeError, MatchResult, WrittenTime, comma, dot, rule_of, slash, type_of, DayAndTime, InvalidRuleDayMonth, InvalidRuleDayWeek, InvalidRuleDayWeekDay, InvalidTimeZoneDesignationChar, InvalidTimeZoneDesignationLength, InvalidUtcOffset, IsAlternateInRange, IsDay, IsDayNumberFault, IsDayTime, IsDayTimeSign, IsDaylightFault, IsDesignation, IsHms, IsMonthWeekDayFault, IsNameAndOffset, IsNameFault, IsNumberFault, IsOffsetFault, IsPart, IsRuleWeek, IsRuleWeekDay, IsRulesFault, IsSign, IsUnclosed, Julian0WithLeap, Julian1WithoutLeap, MonthWeek, MonthWeekDay, RuleDay, TransitionRuleError, TzStringError, UnexpectedEof, capital_j, capital_m, closing_bracket, std_type_of, AlternateTime, FailsFrom, InText, InvalidData, InvalidDstStartEndTime, InvalidDstUtcOffset, InvalidRuleDayJulianDay, InvalidStdUtcOffset, IsConsistentRule, IsDayFault, IsDayTimeFault, IsFirstRuleFault, IsHmsFault, IsInRuleRange, IsLastRuleFault, IsMissingByte, IsMonthWeek, IsPartFault, IsRangeFault, IsRuleInRange, IsRuleMonth, IsRuleTextFault, IsTimeAbove, IsTimeFault, IsTimeUpTo, IsTzText, LacksRules, Reached, TimeFaults, day_time_faults, day_time_hours, offset_faults, offset_hours}
 use Rattle.std.specs.Option.{IfSome}
 use Rattle.tz_base.specs.declared.error.ParseDataError.{ParseDataError}
-use Rattle.tz_rule.specs.JulianDay.{IsJulianDay, IsZeroBasedDay}
+use Rattle.tz_rule.specs.RuleDayNumbers.{IsJulianDay, IsZeroBasedDay}
 use Rattle.tz_rule.specs.declared.timezone.transition_rule.TransitionRule.TheVariants.{Alternate as Alternating}
 use Rattle.tz_rule.specs.RuleDays.{IsRuleDay}
 use Rattle.tz_zone.proofs.TextReadings.{IsOne, same_byte, same_rest, run_is_one, number_is_one, part_is_one, sign_is_one, day_time_sign_is_one, signed_time_is_one, day_is_one, times_are_one, rule_text_is_one, name_is_one, daylight_offset_is_one, name_and_offset_is_one, alternate_text_is_one, no_digit}

@@ -18,7 +18,7 @@ use Rattle.tz_base.specs.declared.error.LocalTimeTypeError.{LocalTimeTypeError}
 use Rattle.tz_base.specs.declared.error.TransitionRuleError.{TransitionRuleError}
 use Rattle.tz_base.specs.declared.error.TransitionRuleError.TheVariants.{InvalidRuleDayJulianDay, InvalidRuleDayMonth, InvalidRuleDayWeek, InvalidRuleDayWeekDay}
 use Rattle.tz_rule.specs.LocalTimeType.{IsFirstTypeFault, type_of}
-use Rattle.tz_rule.specs.JulianDay.{IsJulianDay, IsZeroBasedDay}
+use Rattle.tz_rule.specs.RuleDayNumbers.{IsJulianDay, IsZeroBasedDay}
 use Rattle.tz_rule.specs.MonthWeek.{IsRuleMonth, IsRuleWeek, IsRuleWeekDay}
 use Rattle.tz_rule.specs.Alternate.{IsFirstRuleFault}
 use Rattle.tz_zone.specs.Bytes.{capital_j, capital_m, colon, comma, dot, opening_bracket, slash}

@@ -8,7 +8,7 @@ ghost use Rattle.tz_zone.specs.ZoneRef.{zone_of};
 
 pub use crate::clock::window_types::{WindowTypes, window_types};
 pub use crate::clock::{Span, Stage, clock_segment_at, first_stage, span_from};
-pub use crate::leap::leap_time::{effect, leap};
+pub use crate::leap::leap_time::{effect, unix_time_to_unix_leap_time};
 pub use crate::parse::after_byte;
 pub use crate::parse::tz_file::{FileSizes, file_sizes};
 pub use crate::parse::tz_string::{DEFAULT_HOUR, DEFAULT_SAVING, parse_posix_tz};

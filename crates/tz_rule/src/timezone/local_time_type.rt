@@ -30,7 +30,7 @@ impl Model for LocalTimeType {
 
     ghost Value = { LocalTimeType };
 
-    ghost use Rattle.tz_rule.specs.Designation.{shown, kept, kept_shown, IsKeptType};
+    ghost use Rattle.tz_rule.specs.KeptDesignation.{shown, kept, kept_shown, IsKeptType};
 
     ghost view = { shown };
 
@@ -103,7 +103,7 @@ const fn is_designation_byte(byte: u8) -> bool
 }
 
 impl Designation {
-    ghost use Rattle.tz_rule.specs.Designation.{IsKept, name_of, kept, word_of};
+    ghost use Rattle.tz_rule.specs.KeptDesignation.{IsKept, name_of, kept, word_of};
     ghost use Rattle.tz_rule.specs.LocalTimeType.{IsDesignation, IsDesignationLength};
     ghost use Rattle.tz_base.specs.declared.error.LocalTimeTypeError.TheVariants as faults;
     ghost use Rattle.std.specs.Prelude.{All, IfOk, IfErr, OnOk, ◌⊎◌, ◌≡◌};

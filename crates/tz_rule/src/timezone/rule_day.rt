@@ -2,7 +2,7 @@
 
 ghost use Rattle.tz_base.specs.declared.error.TransitionRuleError.TheVariants as faults;
 ghost use Rattle.std.specs.Prelude.{◌≡◌, ◌⊎◌, ℕ, ◌+◌, ◌-◌, ◌*◌, ◌<◌, ◌≤◌, min, IfOk, IfErr, OnOk};
-ghost use Rattle.tz_rule.specs.JulianDay.{IsJulianDay, IsZeroBasedDay};
+ghost use Rattle.tz_rule.specs.RuleDayNumbers.{IsJulianDay, IsZeroBasedDay};
 ghost use Rattle.tz_rule.specs.MonthWeek.{MonthWeek, IsMonthWeek, IsFirstMonthWeekFault, IsRuleWeek, month_week};
 ghost use Rattle.tz_rule.specs.YearDays.{days_later, julian_year_day, year_day_of};
 ghost use Rattle.tz_rule.specs.ZeroRule.{zero_day};
@@ -29,7 +29,7 @@ pub struct Julian1WithoutLeap(pub(super) u16);
 
 impl Model for Julian1WithoutLeap {
     ghost use Rattle.std.specs.Prelude.{ℕ};
-    ghost use Rattle.tz_rule.specs.JulianDay.{IsJulianDay};
+    ghost use Rattle.tz_rule.specs.RuleDayNumbers.{IsJulianDay};
 
     ghost Value = { ℕ };
 
@@ -85,7 +85,7 @@ pub struct Julian0WithLeap(pub(super) u16);
 
 impl Model for Julian0WithLeap {
     ghost use Rattle.std.specs.Prelude.{ℕ};
-    ghost use Rattle.tz_rule.specs.JulianDay.{IsZeroBasedDay};
+    ghost use Rattle.tz_rule.specs.RuleDayNumbers.{IsZeroBasedDay};
 
     ghost Value = { ℕ };
 

@@ -4,7 +4,7 @@
 //! of the types with a model do, and are lent as these.
 
 ghost use Rattle.std.specs.Prelude.{◌≡◌, [], ◌∷◌, false, pos};
-ghost use Rattle.tz_rule.specs.Designation.{kept};
+ghost use Rattle.tz_rule.specs.KeptDesignation.{kept};
 ghost use Rattle.tz_rule.specs.LocalTimeType.{plain_type};
 
 use super::local_time_type::Designation;

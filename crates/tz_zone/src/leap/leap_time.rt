@@ -247,7 +247,10 @@ pub(crate) fn leap_time(leap_seconds: &[LeapSecond], unix_time: i64) -> Option<i
 }
 
 /// The leap time of an instant. (RFC 8536, section 2)
-pub fn leap(leap_seconds: &[LeapSecond], unix_time: i64) -> Result<i64, TzError>
+pub fn unix_time_to_unix_leap_time(
+    leap_seconds: &[LeapSecond],
+    unix_time: i64,
+) -> Result<i64, TzError>
     requires { AreLeapSeconds leap_seconds.now }
     ensures ok { IfOk result (λ v. IsLeapTime leap_seconds.now unix_time v) }
     ensures err { IfErr result (λ e. (e ≡ TzError.OutOfRange)

@@ -12,7 +12,7 @@ ghost use Rattle.tz_base.specs.declared.error.TransitionRuleError.TheVariants.{I
 ghost use Rattle.tz_base.specs.declared.error.TzError.TheVariants.{TzString, Memory as NoMemory};
 ghost use Rattle.tz_base.specs.declared.error.TzStringError.TheVariants.{ParseData};
 ghost use Rattle.tz_rule.specs.Alternate.{IsRuleOffset};
-ghost use Rattle.tz_rule.specs.JulianDay.{IsJulianDay, IsZeroBasedDay};
+ghost use Rattle.tz_rule.specs.RuleDayNumbers.{IsJulianDay, IsZeroBasedDay};
 ghost use Rattle.tz_rule.specs.LocalTimeType.{IsDesignation, IsFirstTypeFault, type_of};
 ghost use Rattle.tz_rule.specs.MonthWeek.{IsMonthWeek, month_week};
 ghost use Rattle.tz_rule.specs.RuleDays.{IsRuleDay};
@@ -119,7 +119,7 @@ fn read_long_year_day(text: &[u8]) -> Result<(u16, &[u8]), TzStringError>
 }
 
 /// The number of a month, a week or a week day of any length, and the rest of the bytes.
-fn read_long_short_number(text: &[u8]) -> Result<(u8, &[u8]), TzStringError>
+fn read_long_date_number(text: &[u8]) -> Result<(u8, &[u8]), TzStringError>
     ensures { MatchResult result (λ p. IsNumber text.now p.0 p.1.now) (IsNumberFault 8 text.now) }
 {
     let (digits, rest) = read_digits(text);
@@ -149,12 +149,12 @@ fn read_year_day(text: &[u8]) -> Result<(u16, &[u8]), TzStringError>
 }
 
 /// The number of a month, a week or a week day, and the rest of the bytes.
-fn read_short_number(text: &[u8]) -> Result<(u8, &[u8]), TzStringError>
+fn read_date_number(text: &[u8]) -> Result<(u8, &[u8]), TzStringError>
     ensures { MatchResult result (λ p. IsNumber text.now p.0 p.1.now) (IsNumberFault 8 text.now) }
 {
     match read_two_digits(text) {
         Some((number, rest)) => Ok((number, rest)),
-        None => read_long_short_number(text),
+        None => read_long_date_number(text),
     }
 }
 
@@ -382,11 +382,11 @@ fn read_long_month_week_day(text: &[u8]) -> Result<(MonthWeekDay, &[u8]), TzErro
     ensures { MatchResult result (λ p. IsMonthWeekText text.now p.0 p.1.now × IsMonthWeek p.0)
         (IsMonthWeekDayFault text.now) }
 {
-    let (month, rest) = read_short_number(text)?;
+    let (month, rest) = read_date_number(text)?;
     let rest = expect_byte(rest, b'.')?;
-    let (week, rest) = read_short_number(rest)?;
+    let (week, rest) = read_date_number(rest)?;
     let rest = expect_byte(rest, b'.')?;
-    let (week_day, rest) = read_short_number(rest)?;
+    let (week_day, rest) = read_date_number(rest)?;
     Ok((MonthWeekDay::new(month, week, week_day)?, rest))
 }
 

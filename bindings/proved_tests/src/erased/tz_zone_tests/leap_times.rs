@@ -7,7 +7,7 @@ use crate::kit::process::Abort;
 use crate::kit::{self};
 use crate::utc;
 use tz::proved::tz_base::error::TzError;
-use tz::proved::tz_zone::inner::{effect, leap};
+use tz::proved::tz_zone::inner::{effect, unix_time_to_unix_leap_time};
 use tz::proved::tz_zone::timezone::{LeapSecond, LocalTimeType, TimeZoneRef};
 
 /// The leap seconds from 1972 to 2016.
@@ -23,7 +23,7 @@ fn leap_seconds_to_2016() -> [LeapSecond; 27] {
 fn leap_of(leap_seconds: &[LeapSecond], unix_time: i64) -> Result<i64, TzError> {
     let types = [LocalTimeType::utc()];
     let zone = TimeZoneRef::new(&[], &types, leap_seconds, &None)?;
-    leap(zone.leap_seconds(), unix_time)
+    unix_time_to_unix_leap_time(zone.leap_seconds(), unix_time)
 }
 
 /// Where a leap time takes effect, once the leap seconds are checked.

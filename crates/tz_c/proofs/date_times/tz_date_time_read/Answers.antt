@@ -1,6 +1,6 @@
 -- What is written is what is read.
 use Rattle.tz_c.proofs.Common.{refl, inl, subst, sym}
-use Rattle.tz.specs.DateTimeText.{IsDateTimeText}
+use Rattle.tz.specs.DateTimeGrammar.{IsDateTimeText}
 use Rattle.tz_c.proofs.date_times.tz_date_time_read.Goals as goal
 
 pub returns-in-Ok-clause-answer : goal.returns-in-Ok-clause-answer

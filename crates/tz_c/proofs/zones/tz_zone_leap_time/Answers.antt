@@ -2,8 +2,8 @@
 use Rattle.tz_c.proofs.Common.{refl, inl, rules, SFits, to_z-of_z, w64}
 use Rattle.tz_c.proofs.zones.tz_zone_leap_time.Goals as goal
 
-pub leap-requires : goal.leap-requires
-leap-requires c = c.args.zone.now.sound.leap_seconds_are
+pub unix_time_to_unix_leap_time-requires : goal.unix_time_to_unix_leap_time-requires
+unix_time_to_unix_leap_time-requires c = c.args.zone.now.sound.leap_seconds_are
 
 pub returns-in-Ok-clause-answer : goal.returns-in-Ok-clause-answer
 returns-in-Ok-clause-answer c =

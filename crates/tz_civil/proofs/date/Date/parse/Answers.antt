@@ -1,6 +1,6 @@
 -- What is parsed is the text with a midnight after it.
 use Rattle.std.proofs.Common.{ℕ, List, subst, inr}
-use Rattle.tz.specs.DateTimeText.{IsDateTimeText, IsDateTimeTextFault}
+use Rattle.tz.specs.DateTimeGrammar.{IsDateTimeText, IsDateTimeTextFault}
 use Rattle.tz_civil.proofs.date.Date.parse.Goals as goal
 
 pub returns-in-Ok-clause-ok : goal.returns-in-Ok-clause-ok

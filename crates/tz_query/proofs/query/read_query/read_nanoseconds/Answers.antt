@@ -35,7 +35,7 @@ loop-index-preserved c =
     let copied = c.copy_from_slice-2.new.self in
     let long : length copied ≡ 9 = search rules in
     let within : i < length copied = omega (arith, long, c.loop-index-test.true) in (
-      length-set c.loop-index.nine i 48 ∙ c.loop-index.invariant.0,
+      length-set c.loop-index.digits i 48 ∙ c.loop-index.invariant.0,
       ap (λ xs. set xs i 48) c.loop-index.invariant.1 ∙ one_more_zero copied i within,
     )
 
@@ -58,6 +58,6 @@ returns-clause-number c =
     let copied : drop zeros c.copy_from_slice-2.new.self ≡ slice_range bs start (start + k) =
     ap (drop zeros) c.copy_from_slice-2.ensures.after ∙ digits_of_nine bs start (start + k) zeros
     (omega arith) c.if-end-lt9.false (omega (arith, few)) (omega (arith, all)) in
-    padded bs c.args.position k zeros c.loop-index.nine c.requires c.if-bytes-position-ne32.false read.ensures.end
+    padded bs c.args.position k zeros c.loop-index.digits c.requires c.if-bytes-position-ne32.false read.ensures.end
     c.if-bytes-end-ne10.false (omega (arith, c.if-count-eq0.false)) all (c.loop-index.invariant.1
     ∙ ap (λ ds. replicate zeros 48 ++ ds) copied)

@@ -3,4 +3,4 @@ use Rattle.tz_query.proofs.Common.{◌≡◌, ◌++◌, length, drop, replicate}
 use Rattle.tz_query.proofs.query.read_query.read_nanoseconds.Given as goal
 
 abbrev pub invariant-loop-index : goal.invariant-loop-index
-invariant-loop-index l = (length l.nine ≡ 9) × (l.nine ≡ replicate l.index 48 ++ drop l.index l.initial.nine)
+invariant-loop-index l = (length l.digits ≡ 9) × (l.digits ≡ replicate l.index 48 ++ drop l.index l.initial.digits)

@@ -26,4 +26,4 @@ returns-clause-text c =
     ∙ ap (λ bytes. bytes ++ (c.copy_from_slice.new.self ++ (c.copy_from_slice-2.new.self ++ end))) c.self.view_is
     ∙ ap (λ bytes. was ++ (bytes ++ (c.copy_from_slice-2.new.self ++ end))) c.copy_from_slice.ensures.after
     ∙ ap (λ bytes. was ++ (c.args.middle.now ++ (bytes ++ end))) c.copy_from_slice-2.ensures.after
-    ∙ ap (λ bytes. was ++ (c.args.middle.now ++ (c.args.nine.now ++ bytes))) end_is)
+    ∙ ap (λ bytes. was ++ (c.args.middle.now ++ (c.args.digits.now ++ bytes))) end_is)

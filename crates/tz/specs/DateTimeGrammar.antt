@@ -11,7 +11,7 @@ use Rattle.tz_zone.specs.TzText.{Begins}
 use Rattle.tz_base.specs.Fields.{fields_of, reading}
 use Rattle.tz.specs.DateTimes.{DateTime, IsPastTheEnd}
 use Rattle.tz.specs.PrintedText.{two_digits}
-use Rattle.tz.specs.Grammars.{Grammar, one, ◌▸◌, done}
+use Rattle.tz.specs.GrammarSteps.{Grammar, one, ◌▸◌, done}
 use Rattle.tz.specs.declared.parse.DateTimePart.{DateTimePart}
 use Rattle.tz.specs.declared.parse.DateTimePart.TheVariants as parts
 use Rattle.tz.specs.declared.parse.ParseDateTimeError.{ParseDateTimeError}

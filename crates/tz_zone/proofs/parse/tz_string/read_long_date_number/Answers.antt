@@ -2,7 +2,7 @@
 use Rattle.tz_zone.proofs.Common.{ParseInt}
 use Rattle.tz_zone.proofs.QuestionMarkExits.{exit}
 use Rattle.tz_zone.proofs.TextNumbers.{unsigned_fault}
-use Rattle.tz_zone.proofs.parse.tz_string.read_long_short_number.Goals as goal
+use Rattle.tz_zone.proofs.parse.tz_string.read_long_date_number.Goals as goal
 
 pub returns-in_err-parse : goal.returns-in_err-parse
 returns-in_err-parse c =
