@@ -33,7 +33,7 @@ HEAD = """//! The functions of tz.h, each by one pattern: from what C passes it 
 
 use crate::pointers::{Out, list, list_mut, one};
 #[cfg(feature = "zones")]
-use crate::pointers::lent;
+use crate::pointers::raw_parts;
 """
 MIRROR = """
 /// A `{path}` as C has it: pointers and lengths.
@@ -60,7 +60,7 @@ impl {mirror} {{
     /// What C sees of slices of the library's own memory.
     #[cfg(feature = "zones")]
     pub(crate) fn of(data: {name}<'static>) -> Self {{
-        {lent}
+        {parts}
         {mirror} {{ {names} }}
     }}
 }}
@@ -178,7 +178,7 @@ def mirror(path, module, text, name, used):
     paths = {**paths_of(module, text), name: f"{module}::{name}"}
     used.add(paths[name])
     body = re.search(rf"^pub struct {name}<'a> \{{\n(.*?)^\}}", text, re.S | re.M)[1]
-    fields, slices, lent = [], [], []
+    fields, slices, parts = [], [], []
     for line in body.strip().split("\n"):
         found = re.fullmatch(r"\s*pub (\w+): (?:(?P<list>&'a \[(\w+)\])|(\w+)(<'a>)?),", line)
         if not found or found[5] and found[4] not in MIRRORS:
@@ -187,16 +187,16 @@ def mirror(path, module, text, name, used):
         if found["list"]:
             fields += [f"{word}: *const {kind}", f"{word}_length: usize"]
             slices.append(f"{word}: list(self.{word}, self.{word}_length)")
-            lent.append(f"let ({word}, {word}_length) = lent(data.{word});")
+            parts.append(f"let ({word}, {word}_length) = raw_parts(data.{word});")
         elif kind in MIRRORS:
             fields.append(f"{word}: {MIRRORS[kind]}")
             slices.append(f"{word}: self.{word}.data()")
-            lent.append(f"let {word} = {MIRRORS[kind]}::of(data.{word});")
+            parts.append(f"let {word} = {MIRRORS[kind]}::of(data.{word});")
             continue
         else:
             fields.append(f"{word}: {kind}")
             slices.append(f"{word}: self.{word}")
-            lent.append(f"let {word} = data.{word};")
+            parts.append(f"let {word} = data.{word};")
         used.add(paths[kind])
     return MIRROR.format(
         path=name,
@@ -204,7 +204,7 @@ def mirror(path, module, text, name, used):
         mirror=MIRRORS[name],
         fields=",\n    ".join(fields),
         slices=", ".join(slices),
-        lent="\n        ".join(lent),
+        parts="\n        ".join(parts),
         names=", ".join(it.partition(":")[0] for it in fields),
     )
 

@@ -23,7 +23,7 @@ SIGNATURE = re.compile(
     re.S,
 )
 PARAMETER = re.compile(r"(?:mut )?([a-z_]\w*): (.*)", re.S)
-LENT = re.compile(r"(?P<lent>&(?:'\w+ )?(?:mut )?)?(?P<type>.*)", re.S)
+BORROWED = re.compile(r"(?P<borrow>&(?:'\w+ )?(?:mut )?)?(?P<type>.*)", re.S)
 
 
 def parameters_of(text):
@@ -49,9 +49,9 @@ def method_of(function, method, docs, signature):
     names = [it[1] for it in given]
     generics, whole, before = found["generics"] or "", owner, ""
     taken = [f"{it[1]}: {it[2]}" for it in given]
-    first = LENT.fullmatch(given[0][2]) if given else None
+    first = BORROWED.fullmatch(given[0][2]) if given else None
     if first and re.match(rf"{owner}\b", first["type"]):
-        taken[0] = f"{first['lent'] or ''}self"
+        taken[0] = f"{first['borrow'] or ''}self"
         names[0] = "self"
         whole = first["type"]
         lifetimes = [it for it in re.findall(r"'\w+", whole) if it != "'_"]

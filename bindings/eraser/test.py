@@ -331,7 +331,7 @@ class Exports(unittest.TestCase):
             "unsafe { PartsData { one: list(self.one, self.one_length), two: self.two } }", made
         )
         self.assertIn(
-            "let (one, one_length) = lent(data.one);\n        let two = data.two;\n        Parts { one, one_length, two }",
+            "let (one, one_length) = raw_parts(data.one);\n        let two = data.two;\n        Parts { one, one_length, two }",
             made,
         )
         with self.assertRaisesRegex(

@@ -211,7 +211,7 @@ class Exports(unittest.TestCase):
         " impl Parts { #[inline(always)] pub(crate) unsafe fn data(&self) -> PartsData<'_> { unsafe {"
         " PartsData { one: list(self.one, self.one_length), two: self.two, } } }"
         ' #[cfg(feature = "zones")] pub(crate) fn of(data: PartsData<\'static>) -> Self {'
-        " let (one, one_length) = lent(data.one); let two = data.two; Parts { one, one_length, two } } }"
+        " let (one, one_length) = raw_parts(data.one); let two = data.two; Parts { one, one_length, two } } }"
     )
 
     def kinds(self, made):
@@ -239,7 +239,7 @@ class Exports(unittest.TestCase):
             ("Out::new(c)", "Out::new(d)"),
             ("list(self.one, self.one_length)", "list(self.one, self.one_length.min(9))"),
             ("one: *const One, one_length: usize,", "one_length: usize, one: *const One,"),
-            ("lent(data.one)", "lent(data.two)"),
+            ("raw_parts(data.one)", "raw_parts(data.two)"),
             ("assert!(size_of::<Parts>() ==", "assert!(size_of::<Parts>() !="),
             ("use crate::one;", "use crate::four as one;"),
         ):

@@ -10,22 +10,22 @@ use crate::proved::tz_c::zones::{OffsetsData, PartsData};
 use core::{slice, str};
 use tz::TimeZoneRef;
 use tz::proved::tz_rule::inner::RuleRef;
-use tz::proved::tz_zone::inner::plain;
+use tz::proved::tz_zone::inner::ZoneData;
 
 /// The parts and the offsets of a zone.
 fn data_of(zone: TimeZoneRef<'static>) -> TzZone<'static> {
-    let plain = plain(&zone);
-    let (fixed, alternate): (&[_], &[_]) = match plain.rule() {
+    let data = ZoneData::of(&zone);
+    let (fixed, alternate): (&[_], &[_]) = match data.rule() {
         Some(RuleRef::Fixed(local_time_type)) => (slice::from_ref(local_time_type), &[]),
         Some(RuleRef::Alternate(rule)) => (&[], slice::from_ref(rule)),
         None => (&[], &[]),
     };
-    let (least, greatest) = plain.offsets();
+    let (least, greatest) = data.offsets();
     TzZone {
         parts: PartsData {
-            transitions: plain.transitions(),
-            local_time_types: plain.local_time_types(),
-            leap_seconds: plain.leap_seconds(),
+            transitions: data.transitions(),
+            local_time_types: data.local_time_types(),
+            leap_seconds: data.leap_seconds(),
             fixed,
             alternate,
         },

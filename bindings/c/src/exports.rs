@@ -4,7 +4,7 @@
 #![allow(unsafe_code)]
 
 #[cfg(feature = "zones")]
-use crate::pointers::lent;
+use crate::pointers::raw_parts;
 use crate::pointers::{Out, list, list_mut, one};
 use crate::proved::tz_c::date_time_data::{DateTimeData, FoundData, UtcData};
 use crate::proved::tz_c::date_times::ParsedData;
@@ -100,11 +100,11 @@ impl Parts {
     /// What C sees of slices of the library's own memory.
     #[cfg(feature = "zones")]
     pub(crate) fn of(data: PartsData<'static>) -> Self {
-        let (transitions, transitions_length) = lent(data.transitions);
-        let (local_time_types, local_time_types_length) = lent(data.local_time_types);
-        let (leap_seconds, leap_seconds_length) = lent(data.leap_seconds);
-        let (fixed, fixed_length) = lent(data.fixed);
-        let (alternate, alternate_length) = lent(data.alternate);
+        let (transitions, transitions_length) = raw_parts(data.transitions);
+        let (local_time_types, local_time_types_length) = raw_parts(data.local_time_types);
+        let (leap_seconds, leap_seconds_length) = raw_parts(data.leap_seconds);
+        let (fixed, fixed_length) = raw_parts(data.fixed);
+        let (alternate, alternate_length) = raw_parts(data.alternate);
         Parts {
             transitions,
             transitions_length,
@@ -624,7 +624,8 @@ pub unsafe extern "C" fn tz_pattern_read(
     answer
 }
 
-/// What is found of the fields from one of the entries on, and how many entries there are.
+/// Writes the entries that a search finds of the fields, without the first `skip`, to the slots as
+/// far as they go, and counts all.
 ///
 /// # Safety
 ///
@@ -756,7 +757,7 @@ pub unsafe extern "C" fn tz_name_check(name: *const u8, name_length: usize) -> u
     texts::tz_name_check(name)
 }
 
-/// What a setting asks for.
+/// How the text of a setting names a zone.
 ///
 /// # Safety
 ///

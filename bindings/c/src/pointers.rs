@@ -92,7 +92,7 @@ impl<T: Copy> Out<T> {
 /// A list of the library's own memory, as C sees it.
 #[cfg(feature = "zones")]
 #[inline]
-pub(crate) fn lent<T>(list: &'static [T]) -> (*const T, usize) {
+pub(crate) fn raw_parts<T>(list: &'static [T]) -> (*const T, usize) {
     if list.is_empty() {
         return (ptr::null(), 0);
     }

@@ -7,7 +7,7 @@ use tz::datetime::{DateTime, UtcDateTime};
 use tz::error::TzError;
 use tz::proved::tz::datetime::FoundDateTimeList;
 use tz::proved::tz::inner::{Fields, find_fields};
-use tz::proved::tz_zone::inner::plain;
+use tz::proved::tz_zone::inner::ZoneData;
 use tz::proved::tz_zone::timezone::TimeZoneRef;
 use tz::shim::alloc::{AllocError, Allocator, Global};
 use tz::shim::rt::{Files, Machine};
@@ -307,7 +307,7 @@ pub fn find<A: Allocator + Copy>(
     zone: TimeZoneRef<'_>,
 ) -> Result<FoundDateTimeList<A>, TzError> {
     let fields = Fields::new(year, month, month_day, hour, minute, second, nanoseconds);
-    let found = find_fields(alloc, &fields, &plain(&zone));
+    let found = find_fields(alloc, &fields, &ZoneData::of(&zone));
     let listed = DateTime::find(
         year,
         month,

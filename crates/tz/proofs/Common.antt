@@ -66,7 +66,7 @@ pub use Rattle.tz.specs.Buffers.{placed}
 pub use Rattle.tz.specs.DateTimeGrammar.{IsPair, IsDateTimeText, IsFraction, date, time, AreYearDigits, IsDigits, IsYear, duration, offset, EndsDigits, IsHours, IsSecond, IsSeconds, IsByte, IsDateTimeTextFault, IsEnd, IsMark, IsMinutes, IsSeparator, after_mark, byte, date_time}
 pub use Rattle.tz.specs.DateTimes.{DateTime, ShowsByClock, IsClockFault, IsPastTheEnd, IsUtc, ShowsInstant, moment_of, IsDateTime, IsUtcTotal, moment_cmp, total_of, utc_total}
 pub use Rattle.tz.specs.Ends.{entry_of, AreMore, GainsInside, HasInside, IsEndsOf, IsOutsideFault, first_entry, gains_more, gains_none, instant_between}
-pub use Rattle.tz.specs.Entries.{Shown, Jump, Entry, IsEntryInside, HasTwoTypes, IsEntryIn, lent_type, AreEntries, IsEntryOf, IsRefused, AreEntriesBefore, HoldsAt, IsEarlier, IsEntryOutside, IsGiven, IsTaker}
+pub use Rattle.tz.specs.Entries.{Shown, Jump, Entry, IsEntryInside, HasTwoTypes, IsEntryIn, borrowed_type, AreEntries, IsEntryOf, IsRefused, AreEntriesBefore, HoldsAt, IsEarlier, IsEntryOutside, IsGiven, IsTaker}
 pub use Rattle.tz.specs.EntryDateTimes.{IsMadeOf, IsDateTimeOf, IsDatedFault, dated_goes_on, dated_more, dated_none}
 pub use Rattle.tz.specs.FindFaults.{IsFindFault, IsPromised, IsSearchFault, HasPlainOffsets, HasRuleOffsets, IsFarFromEnds, IsInsideEnds}
 pub use Rattle.tz.specs.Found.{Clock, EachCanBeMade, IsFound, IsFoundBy, PassesOver, IsJumpOver, Shows, instant_of, CanBeMade, OneCannotBeMade, first_side}

@@ -47,36 +47,37 @@ map_or f (Some x) b = refl
 
 -- with one entry more
 module _ (before : List Entry) (ends grown : Ends) (are : IsEndsOf before ends) where
-  ends_grown : (e : LentEntry) → grown.count ≡ length (before ++ entry_of e ∷ [])
+  ends_grown : (e : BorrowedEntry) → grown.count ≡ length (before ++ entry_of e ∷ [])
       → grown.first ≡ option_or ends.first (Some e) → grown.last ≡ Some e
       → option_map entry_of grown.shown ≡ first_shown (before ++ entry_of e ∷ [])
       → IsEndsOf (before ++ entry_of e ∷ []) grown
   ends_grown e count first last shown = record {
     count_is = count;
-    first_is = ap (λ (x : Option LentEntry). option_map entry_of x) first ∙ map_or entry_of ends.first (Some e)
+    first_is = ap (λ (x : Option BorrowedEntry). option_map entry_of x) first ∙ map_or entry_of ends.first (Some e)
         ∙ ap (λ (x : Option Entry). option_or x (Some (entry_of e))) are.first_is
         ∙ sym (first_of_grown before (entry_of e));
-    last_is = ap (λ (x : Option LentEntry). option_map entry_of x) last ∙ sym (last_of_grown before (entry_of e));
+    last_is = ap (λ (x : Option BorrowedEntry). option_map entry_of x) last ∙ sym (last_of_grown before (entry_of e));
     shown_is = shown;
   }
 
   pub with_shown : (u : ℤ) (t : Bor LocalTimeType) → grown.count ≡ length (before ++ Shown u t.now ∷ [])
-      → grown.first ≡ option_or ends.first (Some (lent.Shown u t))
-      → grown.last ≡ Some (lent.Shown u t) → grown.shown ≡ option_or ends.shown (Some (lent.Shown u t))
+      → grown.first ≡ option_or ends.first (Some (borrowed.Shown u t))
+      → grown.last ≡ Some (borrowed.Shown u t) → grown.shown ≡ option_or ends.shown (Some (borrowed.Shown u t))
       → IsEndsOf (before ++ Shown u t.now ∷ []) grown
-  with_shown u t count first last shown = ends_grown (lent.Shown u t) count first last
-      (ap (λ (x : Option LentEntry). option_map entry_of x) shown ∙ map_or entry_of ends.shown (Some (lent.Shown u t))
+  with_shown u t count first last shown = ends_grown (borrowed.Shown u t) count first last
+      (ap (λ (x : Option BorrowedEntry). option_map entry_of x) shown
+      ∙ map_or entry_of ends.shown (Some (borrowed.Shown u t))
       ∙ ap (λ (x : Option Entry). option_or x (Some (Shown u t.now))) are.shown_is
       ∙ sym (shown_of_grown before u t.now))
 
-  pub with_jump : (e : LentEntry) (u : ℤ) (a b : LocalTimeType) → entry_of e ≡ Jump u a b
+  pub with_jump : (e : BorrowedEntry) (u : ℤ) (a b : LocalTimeType) → entry_of e ≡ Jump u a b
       → grown.count ≡ length (before ++ Jump u a b ∷ []) → grown.first ≡ option_or ends.first (Some e)
       → grown.last ≡ Some e → grown.shown ≡ ends.shown → IsEndsOf (before ++ Jump u a b ∷ []) grown
   with_jump e u a b is count first last shown =
       subst (λ (x : Entry). IsEndsOf (before ++ x ∷ []) grown) is (ends_grown e
       (subst (λ (x : Entry). grown.count ≡ length (before ++ x ∷ [])) (sym is) count) first last
       (subst (λ (x : Entry). option_map entry_of grown.shown ≡ first_shown (before ++ x ∷ [])) (sym is)
-      (ap (λ (x : Option LentEntry). option_map entry_of x) shown ∙ are.shown_is
+      (ap (λ (x : Option BorrowedEntry). option_map entry_of x) shown ∙ are.shown_is
       ∙ sym (shown_of_skipped before u a b))))
 
 -- all choices mean one that is shown alone
@@ -90,7 +91,7 @@ one_shown_meant Reject u t = refl
 -- the entries, by their number and ends
 pub none_of : (es : List Entry) (ends : Ends) → IsEndsOf es ends → ends.first ≡ None → es ≡ []
 none_of [] ends are none = refl
-none_of (e ∷ es) ends are none = let wrong = ap (λ (k : Option LentEntry). option_map entry_of k) none in
+none_of (e ∷ es) ends are none = let wrong = ap (λ (k : Option BorrowedEntry). option_map entry_of k) none in
     absurd (cc (are.first_is, wrong))
 
 pub one_of : (es : List Entry) (ends : Ends) → IsEndsOf es ends → (e : LentEntry) → ends.count ≡ 1 → ends.first ≡ Some e
@@ -98,7 +99,7 @@ pub one_of : (es : List Entry) (ends : Ends) → IsEndsOf es ends → (e : LentE
 one_of [] ends are e one first = absurd (omega (arith, are.count_is, one))
 one_of (x ∷ []) ends are e one first =
     let same : Some x ≡ Some (entry_of e) =
-    sym are.first_is ∙ ap (λ (k : Option LentEntry). option_map entry_of k) first in
+    sym are.first_is ∙ ap (λ (k : Option BorrowedEntry). option_map entry_of k) first in
     ap (λ (k : Entry). k ∷ []) (cc same)
 one_of (x ∷ y ∷ es) ends are e one first = absurd (omega (arith, are.count_is, one))
 
@@ -109,9 +110,9 @@ two_of [] ends are e g two first last = absurd (omega (arith, are.count_is, two)
 two_of (x ∷ []) ends are e g two first last = absurd (omega (arith, are.count_is, two))
 two_of (x ∷ y ∷ []) ends are e g two first last =
     let same : Some x ≡ Some (entry_of e) =
-    sym are.first_is ∙ ap (λ (k : Option LentEntry). option_map entry_of k) first in
+    sym are.first_is ∙ ap (λ (k : Option BorrowedEntry). option_map entry_of k) first in
     let same' : Some y ≡ Some (entry_of g) =
-    sym are.last_is ∙ ap (λ (k : Option LentEntry). option_map entry_of k) last in
+    sym are.last_is ∙ ap (λ (k : Option BorrowedEntry). option_map entry_of k) last in
     ap (λ (k : Entry). k ∷ y ∷ []) (cc same) ∙ ap (λ (k : Entry). entry_of e ∷ k ∷ []) (cc same')
 two_of (x ∷ y ∷ w ∷ es) ends are e g two first last = absurd (omega (arith, are.count_is, two))
 
@@ -120,7 +121,7 @@ none_of_last [] ends are none = refl
 none_of_last (e ∷ es) ends are none =
     let last : last_entry (e ∷ es) ≡ Some (get_or (e ∷ es) (length es) e) =
     ap (λ (i : ℕ). slice_get (e ∷ es) i) (omega arith) ∙ slice_get-get_or (e ∷ es) (length es) e (omega arith) in
-    let wrong = ap (λ (k : Option LentEntry). option_map entry_of k) none in
+    let wrong = ap (λ (k : Option BorrowedEntry). option_map entry_of k) none in
     absurd (cc (are.last_is, wrong, last))
 
 -- two of which the last is a jump are more than a fold
@@ -129,16 +130,16 @@ ends_in_jump (Shown v t) u a b = tt
 ends_in_jump (Jump v s t) u a b = tt
 
 pub more_with_jump : (es : List Entry) (ends : Ends) → IsEndsOf es ends → (e : LentEntry) → ends.count ≡ 2
-    → ends.first ≡ Some e → (u : ℤ) (a b : Bor LocalTimeType) → ends.last ≡ Some (lent.Jump u a b) → AreMore es
+    → ends.first ≡ Some e → (u : ℤ) (a b : Bor LocalTimeType) → ends.last ≡ Some (borrowed.Jump u a b) → AreMore es
 more_with_jump es ends are e two first u a b last =
-    subst AreMore (sym (two_of es ends are e (lent.Jump u a b) two first last))
+    subst AreMore (sym (two_of es ends are e (borrowed.Jump u a b) two first last))
     (ends_in_jump (entry_of e) u a.now b.now)
 
 -- and so are three
 pub more_than_two : (es : List Entry) (ends : Ends) → IsEndsOf es ends → (e : LentEntry) → ends.first ≡ Some e
     → ends.count ≢ 1 → ends.count ≢ 2 → AreMore es
 more_than_two [] ends are e first one two =
-    let some = ap (λ (k : Option LentEntry). option_map entry_of k) first in
+    let some = ap (λ (k : Option BorrowedEntry). option_map entry_of k) first in
     absurd (cc (are.first_is, some))
 more_than_two (x ∷ []) ends are e first one two = absurd (one are.count_is)
 more_than_two (x ∷ y ∷ []) ends are e first one two = absurd (two are.count_is)
@@ -148,13 +149,13 @@ more_than_two (Jump u a b ∷ y ∷ x ∷ es) ends are e first one two = tt
 
 -- and more than a jump, if it is the first
 pub more_than_jump : (es : List Entry) (ends : Ends) → IsEndsOf es ends → (u : ℤ) (a b : Bor LocalTimeType)
-    → ends.first ≡ Some (lent.Jump u a b) → ends.count ≢ 1 → AreMore es
+    → ends.first ≡ Some (borrowed.Jump u a b) → ends.count ≢ 1 → AreMore es
 more_than_jump [] ends are u a b first one =
-    let some = ap (λ (k : Option LentEntry). option_map entry_of k) first in
+    let some = ap (λ (k : Option BorrowedEntry). option_map entry_of k) first in
     absurd (cc (are.first_is, some))
 more_than_jump (x ∷ []) ends are u a b first one = absurd (one are.count_is)
 more_than_jump (Shown v t ∷ y ∷ es) ends are u a b first one =
-    let some = ap (λ (k : Option LentEntry). option_map entry_of k) first in
+    let some = ap (λ (k : Option BorrowedEntry). option_map entry_of k) first in
     absurd (cc (are.first_is, some))
 more_than_jump (Jump v s t ∷ y ∷ es) ends are u a b first one = tt
 

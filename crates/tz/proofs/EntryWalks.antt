@@ -1,6 +1,6 @@
 -- A walk past spans of time, in each of which a clock has one type or none, finds all entries of a reading in its
 -- window.
-use Rattle.tz.proofs.Common.{arith, refl, ◌≡◌, subst, ◌∙◌, ints, inr, sym, inl, [], ap, ℕ, ◌∷◌, ◌<◌, List, length, pos, ℤ, IsClock, Some, Zone, ◌≤◌, ◌++◌, suc, ◌-ℤ◌, zero, ◌+ℤ◌, ◌<ℤ◌, ◌≤ℤ◌, None, Option, negsuc, LocalTimeType, Shown, ◌⊎◌, get_or, Jump, Entry, append-nil, Clock, All-nil, Contains, HasTwoTypes, IsEntryIn, by_lt_z, lent_type, AreEntries, PassesOver, same_Some, All-weaker, AreLeapSeconds, Bor, IsEntryOf, IsJumpOver, MatchOption, All-push, AreEntriesBefore, Contains-append_left, Contains-push, HasNoType, HoldsAt, IsEarlier, IsGiven, clock_unique, none-some}
+use Rattle.tz.proofs.Common.{arith, refl, ◌≡◌, subst, ◌∙◌, ints, inr, sym, inl, [], ap, ℕ, ◌∷◌, ◌<◌, List, length, pos, ℤ, IsClock, Some, Zone, ◌≤◌, ◌++◌, suc, ◌-ℤ◌, zero, ◌+ℤ◌, ◌<ℤ◌, ◌≤ℤ◌, None, Option, negsuc, LocalTimeType, Shown, ◌⊎◌, get_or, Jump, Entry, append-nil, Clock, All-nil, Contains, HasTwoTypes, IsEntryIn, by_lt_z, borrowed_type, AreEntries, PassesOver, same_Some, All-weaker, AreLeapSeconds, Bor, IsEntryOf, IsJumpOver, MatchOption, All-push, AreEntriesBefore, Contains-append_left, Contains-push, HasNoType, HoldsAt, IsEarlier, IsGiven, clock_unique, none-some}
 use Rattle.std.proofs.lemmas.List.Quantifiers.{all_pairs_push}
 use Rattle.tz.specs.Entries.{instant_of}
 
@@ -263,11 +263,11 @@ module _ (clock : Clock) (low high r : ℤ) (offsets : AreOffsetsAround clock lo
 -- throughout a span the clock has its type
 pub span_holds : (z : Zone) → AreLeapSeconds z.leap_seconds → (since last : ℤ) (type : Option (Bor LocalTimeType))
     → ((u : ℤ) → since ≤ℤ u → u ≤ℤ last → MatchOption type (HasNoType z u) (λ t. IsClock z u t.now))
-    → HoldsTo (IsClock z) since last (lent_type type)
+    → HoldsTo (IsClock z) since last (borrowed_type type)
 span_holds z leaps since last type holds u from to = by_type type (holds u from to)
   where
     by_type : (type : Option (Bor LocalTimeType)) → MatchOption type (HasNoType z u) (λ t. IsClock z u t.now)
-        → HoldsAt (IsClock z) u (lent_type type)
+        → HoldsAt (IsClock z) u (borrowed_type type)
     by_type None none = holds_none (IsClock z) u none
     by_type (Some t) clock = holds_at z leaps u t.now clock
 

@@ -1,6 +1,6 @@
 mod Common
 pub mod PlacedSlots
-pub mod LentSlots
+pub mod BorrowedSlots
 pub mod SearchParameters
 pub mod DatedEntries
 pub mod ClockTypes

@@ -12,10 +12,10 @@ use denote.Triple.End.{Kepts}
 use denote.Triple.Walked.{Stays, AllGo, Goes, stay_dropped, Goes-dropped, Goes-spent_slice}
 use Rattle.tz_zone.specs.contracts.timezone.zone_ref.TimeZoneRef as zone
 use Rattle.tz_zone.proofs.timezone.zone_ref.TimeZoneRef.TheLaws as zone_laws
-use Rattle.tz.specs.LentSlots.{slot_row}
+use Rattle.tz.specs.BorrowedSlots.{slot_row}
 
-abbrev lent_slots : Slot 2
-lent_slots = SliceRefMutOf (0 ∷ []) tt (plain (λ _. slot_row)) (λ _. tt)
+abbrev borrowed_slots : Slot 2
+borrowed_slots = SliceRefMutOf (0 ∷ []) tt (plain (λ _. slot_row)) (λ _. tt)
 
 abbrev year : Slot 2
 year = plain (λ _. i32)
@@ -30,7 +30,7 @@ abbrev zone_slot : Slot 2
 zone_slot = plain (λ κs. zone.the_row (named_lft 2 1 tt κs))
 
 abbrev pub params : List (Slot 2)
-params = lent_slots ∷ year ∷ byte ∷ byte ∷ byte ∷ byte ∷ byte ∷ nanoseconds ∷ zone_slot ∷ []
+params = borrowed_slots ∷ year ∷ byte ∷ byte ∷ byte ∷ byte ∷ byte ∷ nanoseconds ∷ zone_slot ∷ []
 
 abbrev kept : Kepts params
 kept = (no, (yes, (yes, (yes, (yes, (yes, (yes, (yes, (yes, tt)))))))))

@@ -22,10 +22,10 @@ use Rattle.tz.specs.declared.datetime.disambiguation.Ends.{Ends}
 use Rattle.tz.specs.declared.datetime.disambiguation.Entry.{Entry as LentEntry}
 use Rattle.tz.specs.declared.datetime.disambiguation.Entry.TheVariants as lent
 
--- an entry whose types are lent
-abbrev pub entry_of : LentEntry → Entry
-entry_of (lent.Shown u t) = Shown u t.now
-entry_of (lent.Jump u a b) = Jump u a.now b.now
+-- an entry whose types are borrowed
+abbrev pub entry_of : BorrowedEntry → Entry
+entry_of (borrowed.Shown u t) = Shown u t.now
+entry_of (borrowed.Jump u a b) = Jump u a.now b.now
 
 -- the first entry, the last, and the first that is shown
 abbrev pub first_entry : List Entry → Option Entry
@@ -86,13 +86,13 @@ HasEnds clock r ends = (es : List Entry) × AreEntries clock r es × All IsEntry
     × IsEndsOf es ends
 
 -- the entry that is meant of them
-abbrev pub HasMeant : Clock → ℤ → Disambiguation → Option LentEntry → Type 0
+abbrev pub HasMeant : Clock → ℤ → Disambiguation → Option BorrowedEntry → Type 0
 HasMeant clock r choice meant = (es : List Entry) × AreEntries clock r es × All IsEntryInside es
     × (option_map entry_of meant ≡ entry_meant choice es)
 
 -- of those in any clock that has two types around a change
 abbrev pub HasMeantAround : ℤ → ℤ → LocalTimeType → LocalTimeType → Disambiguation
-    → Option LentEntry → Type 0
+    → Option BorrowedEntry → Type 0
 HasMeantAround r since before after choice meant = (es : List Entry)
     × ((z : Zone) → HasTwoTypes z r since before after → AreEntries (IsClock z) r es)
     × All IsEntryInside es × (option_map entry_of meant ≡ entry_meant choice es)

@@ -95,8 +95,8 @@ pub record HasTwoTypes (z : Zone) (r jump : ℤ) (before after : LocalTimeType) 
       → IsClock z u before) × ((u : ℤ) → jump ≤ℤ u → u ≤ℤ high → IsClock z u after)
 
 -- a type that is lent
-abbrev pub lent_type : Option (Bor LocalTimeType) → Option LocalTimeType
-lent_type type = option_map (λ t. t.now) type
+abbrev pub borrowed_type : Option (Bor LocalTimeType) → Option LocalTimeType
+borrowed_type type = option_map (λ t. t.now) type
 
 -- what a reading has in a span of time throughout which a clock has one type, or none, by the type
 -- just before it

@@ -21,7 +21,7 @@ pub mod UtcText
 pub mod PrintedBytes
 pub mod UtcConstants
 pub mod Lists
-pub mod LentSlots
+pub mod BorrowedSlots
 pub mod SlotEquality
 pub mod Meanings
 pub mod LocalMeanings

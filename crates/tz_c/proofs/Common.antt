@@ -8,6 +8,7 @@ pub use Rattle.std.specs.List.{list_all, onto_first, slice_split}
 pub use Rattle.std.specs.Prelude.{slice_get, ◌==◌, codes, if◌then◌else◌, nat_le, ◌&&◌, ◌++◌}
 pub use mir.Syntax.{w64, w32}
 pub use mir.Val.{SFits, of_z, to_z}
+pub use Rattle.tz.specs.Columns.{IsOffset}
 pub use Rattle.tz.specs.DateTimes.{IsUtcTotal, utc_total, DateTime, IsClockFault, IsUtcAt, ShowsByClock}
 pub use Rattle.tz.specs.declared.datetime.disambiguation.Disambiguation.{Disambiguation}
 pub use Rattle.tz_base.specs.Fields.{IsReading, IsCivil, reading}
@@ -19,7 +20,7 @@ pub use Rattle.tz_zone.specs.Clock.{IsClock, IsLookupFault, IsTypeAfter, IsOver,
 pub use Rattle.tz_zone.specs.Offsets.{AreEndOffsets}
 pub use Rattle.tz_zone.specs.Table.{Zone}
 pub use Rattle.tz_c.specs.Codes.{code_of, IsAnswer, IsAnswerOr, buffer_length, fields_code, number_code}
-pub use Rattle.tz_c.specs.Columns.{IsDateTimeAt, IsInstantAt, IsOffsetAt, AreAnswers, AreInstantsBy, AreOfLength, IsDay, IsInstantAnswer, IsOffset}
+pub use Rattle.tz_c.specs.Columns.{IsDateTimeAt, IsInstantAt, IsOffsetAt, AreAnswers, AreInstantsBy, AreOfLength, IsDay, IsInstantAnswer}
 pub use Rattle.tz_c.specs.DateTimes.{IsChoiceAnswer, choice_of, IsDateTimeDataOf, IsMeaningAnswer}
 pub use Rattle.tz_c.specs.ErrorTexts.{error_text, text_of_code, texts, number_text, text_in}
 pub use Rattle.tz_c.specs.Texts.{IsRuleTextAnswer, IsTextAnswer}

@@ -36,7 +36,7 @@ fn segment_around<'a>(zone: &TzZone<'a>, before: Segment<'a>, unix_time: i64) ->
     if before.contains(unix_time) {
         before
     } else {
-        zone.lent().segment_at(unix_time)
+        zone.as_zone_data().segment_at(unix_time)
     }
 }
 
@@ -55,7 +55,7 @@ fn type_in<'a>(
 {
     match segment.local_time_type() {
         Some(local_time_type) => Ok(local_time_type),
-        None => zone.lent().find_local_time_type(unix_time),
+        None => zone.as_zone_data().find_local_time_type(unix_time),
     }
 }
 
@@ -202,7 +202,7 @@ fn instant_of(
         out.new }
     ensures kept { result ≢ 0 → out.new ≡ out.old }
 {
-    match find_one(fields, disambiguation, &zone.lent()) {
+    match find_one(fields, disambiguation, &zone.as_zone_data()) {
         Ok(Some(date_time)) => {
             *out = DateTimeData::of(&date_time).unix_time;
             OK
@@ -267,7 +267,7 @@ pub extern "C" fn tz_column_date_times(
         return BUFFER_LENGTH;
     }
     let mut segment = zone
-        .lent()
+        .as_zone_data()
         .segment_at(unix_times.first().copied().unwrap_or(0));
     let mut day = day_of(0);
     for i in 0..unix_times.len() {

@@ -88,7 +88,7 @@ pub extern "C" fn tz_date_time_from_timespec(
     if nanoseconds >= NANOSECONDS_PER_SECOND {
         return INVALID_NANOSECONDS;
     }
-    let local_time_type = match zone.lent().find_local_time_type(unix_time) {
+    let local_time_type = match zone.as_zone_data().find_local_time_type(unix_time) {
         Ok(local_time_type) => local_time_type,
         Err(error) => return code_of(&error),
     };

@@ -61,7 +61,7 @@ pub extern "C" fn tz_zone_start_of_day(
         Ok(date) => date,
         Err(error) => return code_of(&error),
     };
-    match first_of_day(&zone.lent(), date.day_number()) {
+    match first_of_day(&zone.as_zone_data(), date.day_number()) {
         Ok(Some(start)) => {
             *unix_time = start.unix_time;
             OK

@@ -35,7 +35,7 @@ pub extern "C" fn tz_find_n(
     ensures slots_kept { result ≢ 0 → slots.new ≡ slots.old }
     ensures count_kept { result ≢ 0 → count.new ≡ count.old }
 {
-    match find_into(slots, skip, fields, &zone.lent()) {
+    match find_into(slots, skip, fields, &zone.as_zone_data()) {
         Ok(found) => {
             *count = found;
             OK
@@ -72,7 +72,7 @@ pub extern "C" fn tz_find_one(
     let Some(disambiguation) = choice_of(choice) else {
         return UNKNOWN_CHOICE;
     };
-    match find_one(fields, disambiguation, &zone.lent()) {
+    match find_one(fields, disambiguation, &zone.as_zone_data()) {
         Ok(Some(date_time)) => {
             *out = DateTimeData::of(&date_time);
             OK

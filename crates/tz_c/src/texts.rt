@@ -32,7 +32,7 @@ use tz::inner::{TextBuffer, fields_of, utc_fields_of};
 use tz::{DateTime, TzString, UtcDateTime};
 use tz_rule::inner::AlternateData;
 use tz_rule::timezone::LocalTimeType;
-use tz_zone::inner::{FileSizes, file_sizes, parse_posix_tz, plain};
+use tz_zone::inner::{FileSizes, ZoneData, file_sizes, parse_posix_tz};
 use tz_zone::timezone::{LeapSecond, TimeZone, Transition, is_zone_name};
 
 /// Copies a text to a buffer and stores its length, if there is room.
@@ -210,7 +210,7 @@ pub extern "C" fn tz_file_read(
             local_time_types.copy_from_slice(read.local_time_types());
             leap_seconds.copy_from_slice(read.leap_seconds());
             *rule = RuleData::of(read.extra_rule());
-            let (least, greatest) = plain(&read).offsets();
+            let (least, greatest) = ZoneData::of(&read).offsets();
             *out = OffsetsData { least, greatest };
             OK
         }

@@ -21,12 +21,12 @@ pub struct TzZone<'a> {
 }
 
 impl<'a> TzZone<'a> {
-    ghost use Rattle.tz_zone.specs.ZoneOfData.{zone_of_data as lent_zone};
+    ghost use Rattle.tz_zone.specs.ZoneOfData.{zone_of_data as borrowed_zone};
     ghost use Rattle.tz_c.specs.ZoneOfData.{zone_of_data};
 
     /// The zone as calls of the library take it.
-    pub(crate) fn lent(&self) -> inner::ZoneData<'a>
-        ensures { lent_zone result ≡ zone_of_data self.now }
+    pub(crate) fn as_zone_data(&self) -> inner::ZoneData<'a>
+        ensures { borrowed_zone result ≡ zone_of_data self.now }
     {
         inner::ZoneData::from_valid_parts(
             self.parts.transitions,

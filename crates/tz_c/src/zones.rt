@@ -12,7 +12,7 @@ ghost use Rattle.tz_zone.specs.Changes.{IsTrueSegment, IsFollowing, IsPreceding,
 ghost use Rattle.tz_zone.specs.Changes.{HasNoPreceding};
 ghost use Rattle.tz_zone.specs.Clock.{IsClock, IsLookupFault};
 ghost use Rattle.tz_zone.specs.LeapTime.{IsLeapTime, IsLeapTimeRefused, IsEffect, IsEffectRefused};
-ghost use Rattle.tz_zone.specs.LentRules.{lent_rule};
+ghost use Rattle.tz_zone.specs.BorrowedRules.{borrowed_rule};
 ghost use Rattle.tz_zone.specs.Offsets.{AreEndOffsets};
 ghost use Rattle.tz_zone.specs.TableChanges.{HasTableEnds};
 ghost use Rattle.tz_zone.specs.ValidZone.{IsValidZone, IsFirstZoneFault};
@@ -193,7 +193,7 @@ pub(crate) fn rule_of_lists<'a>(
     fixed: &'a [LocalTimeType],
     alternate: &'a [AlternateData],
 ) -> Option<RuleRef<'a>>
-    ensures { lent_rule result ≡ rule_of_lists fixed.now alternate.now }
+    ensures { borrowed_rule result ≡ rule_of_lists fixed.now alternate.now }
 {
     if !fixed.is_empty() {
         return Some(RuleRef::Fixed(&fixed[0]));
@@ -337,7 +337,7 @@ pub extern "C" fn tz_zone_type_at(zone: &TzZone<'_>, unix_time: i64, out: &mut L
         (IsLookupFault (zone_of_data zone.now) unix_time) }
     ensures kept { result ≢ 0 → out.new ≡ out.old }
 {
-    match zone.lent().find_local_time_type(unix_time) {
+    match zone.as_zone_data().find_local_time_type(unix_time) {
         Ok(local_time_type) => {
             *out = *local_time_type;
             OK
@@ -359,7 +359,7 @@ pub extern "C" fn tz_zone_segment_at(
     ensures ends { HasTableEnds (zone_of_data zone.now) out.new.from out.new.last }
     ensures zeros { HasZerosWithoutType out.new }
 {
-    *out = SegmentData::of(&zone.lent().segment_at(unix_time));
+    *out = SegmentData::of(&zone.as_zone_data().segment_at(unix_time));
     OK
 }
 
@@ -370,7 +370,7 @@ pub extern "C" fn tz_zone_following(zone: &TzZone<'_>, unix_time: i64, out: &mut
         (change_written out.new)) (HasNoFollowing (zone_of_data zone.now) unix_time) }
     ensures kept { result ≢ 0 → out.new ≡ out.old }
 {
-    match zone.lent().following(unix_time) {
+    match zone.as_zone_data().following(unix_time) {
         Some(change) => {
             *out = ChangeData::of(&change);
             OK
@@ -386,7 +386,7 @@ pub extern "C" fn tz_zone_preceding(zone: &TzZone<'_>, unix_time: i64, out: &mut
         (change_written out.new)) (HasNoPreceding (zone_of_data zone.now) unix_time) }
     ensures kept { result ≢ 0 → out.new ≡ out.old }
 {
-    match zone.lent().preceding(unix_time) {
+    match zone.as_zone_data().preceding(unix_time) {
         Some(change) => {
             *out = ChangeData::of(&change);
             OK
@@ -410,8 +410,9 @@ fn index_in(types: &[LocalTimeType], local_time_type: &LocalTimeType) -> Option<
 
 /// The first index of one of a rule's types among them.
 fn index_in_rule(rule: Option<RuleRef<'_>>, local_time_type: &LocalTimeType) -> usize
-    requires { Stands (rule_types (lent_rule rule)) local_time_type.now }
-    ensures index { IsFirstIndex (rule_types (lent_rule rule.entry)) local_time_type.now result }
+    requires { Stands (rule_types (borrowed_rule rule)) local_time_type.now }
+    ensures index { IsFirstIndex (rule_types (borrowed_rule rule.entry)) local_time_type.now
+        result }
     ensures bound { result < 2 }
 {
     match rule {
@@ -430,7 +431,7 @@ fn index_of(zone: &TzZone<'_>, local_time_type: &LocalTimeType) -> usize
     let types = zone.parts.local_time_types;
     match index_in(types, local_time_type) {
         Some(index) => index,
-        None => types.len() + index_in_rule(zone.lent().rule(), local_time_type),
+        None => types.len() + index_in_rule(zone.as_zone_data().rule(), local_time_type),
     }
 }
 
@@ -441,7 +442,7 @@ pub extern "C" fn tz_zone_place_at(zone: &TzZone<'_>, unix_time: i64, out: &mut 
         (IsLookupFault (zone_of_data zone.now) unix_time) }
     ensures kept { result ≢ 0 → out.new ≡ out.old }
 {
-    match zone.lent().find_local_time_type(unix_time) {
+    match zone.as_zone_data().find_local_time_type(unix_time) {
         Ok(local_time_type) => {
             *out = index_of(zone, local_time_type);
             OK

@@ -10,11 +10,10 @@ ghost use Rattle.tz_civil.specs.DayStarts.{HasNotShown, IsDayWindow, IsSkippedDa
 
 use crate::Date;
 use tz::DateTime;
-use tz::inner::{WindowTypes, plain, types_of_window};
+use tz::inner::{WindowTypes, ZoneData, types_of_window};
 use tz_base::constants::SECONDS_PER_DAY;
 use tz_base::error::TzError;
 use tz_base::order::lesser_i64;
-use tz_zone::inner::ZoneData;
 use tz_zone::timezone::{LocalTimeType, TimeZoneRef};
 
 /// An instant, and the type that a clock has there.
@@ -191,7 +190,7 @@ pub fn start_of_day(zone: &TimeZoneRef<'_>, date: Date) -> Result<Option<DateTim
         (StartsDay (zone_of zone.now) (number_of date))) }
     ensures err { IfErr result (IsStartFault (zone_of zone.now) (number_of date)) }
 {
-    let found = first_of_day(&plain(zone), date.day_number())?;
+    let found = first_of_day(&ZoneData::of(zone), date.day_number())?;
     let Some(shown) = found else {
         return Ok(None);
     };

@@ -6,11 +6,11 @@ use Rattle.tz_rule.specs.declared.timezone.alternate_time.AlternateTime.TheInsid
 
 -- both days are those of the data
 pub record HasItsDays (r : Inside) : Type 0 where
-  pub start_is : r.dst_start ≡ r.plain.dst_start
-  pub end_is : r.dst_end ≡ r.plain.dst_end
+  pub start_is : r.dst_start ≡ r.rule.dst_start
+  pub end_is : r.dst_end ≡ r.rule.dst_end
 
 abbrev pub with_days : AlternateTime → Inside
-with_days r = record { plain = r; dst_start = r.dst_start; dst_end = r.dst_end }
+with_days r = record { rule = r; dst_start = r.dst_start; dst_end = r.dst_end }
 
-pub with_its_days : (r : Inside) → HasItsDays r → with_days r.plain ≡ r
+pub with_its_days : (r : Inside) → HasItsDays r → with_days r.rule ≡ r
 with_its_days r k = rw (← k.start_is, ← k.end_is) refl

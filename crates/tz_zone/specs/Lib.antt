@@ -10,7 +10,7 @@ pub mod PositionsLeft
 pub mod ValidZone
 pub mod Offsets
 pub mod ZoneRef
-pub mod LentRules
+pub mod BorrowedRules
 pub mod ZoneOfData
 pub mod ClockSegments
 pub mod ClockSpans

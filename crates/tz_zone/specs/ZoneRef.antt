@@ -6,7 +6,7 @@ use Rattle.tz_zone.specs.declared.timezone.zone_ref.TimeZoneRef.{TimeZoneRef}
 
 -- the parts that a borrowed zone lends
 abbrev pub zone_of : TimeZoneRef → Zone
-zone_of z = zone_of_data z.plain
+zone_of z = zone_of_data z.zone_data
 
 -- the parts that an owning zone has
 abbrev pub own_zone_of : {A : Type 0} → TimeZone A → Zone

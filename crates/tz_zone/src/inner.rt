@@ -2,9 +2,6 @@
 //! over a view of its transitions, leap times, what is read of a zone, and its plain data, which no
 //! public call of `TimeZoneRef` returns.
 
-ghost use Rattle.std.specs.Prelude.{◌≡◌};
-ghost use Rattle.tz_zone.specs.ZoneOfData.{zone_of_data};
-ghost use Rattle.tz_zone.specs.ZoneRef.{zone_of};
 
 pub use crate::clock::window_types::{WindowTypes, window_types};
 pub use crate::clock::{Span, Stage, clock_segment_at, first_stage, span_from};
@@ -13,13 +10,7 @@ pub use crate::parse::after_byte;
 pub use crate::parse::tz_file::{FileSizes, file_sizes};
 pub use crate::parse::tz_string::{DEFAULT_HOUR, DEFAULT_SAVING, parse_posix_tz};
 pub use crate::table::TransitionView;
-use crate::timezone::TimeZoneRef;
 pub use crate::timezone::files::{open_fault, read_to_end};
 pub use crate::timezone::zone_data::ZoneData;
 
 /// The zone's plain data.
-pub const fn plain<'a>(zone: &TimeZoneRef<'a>) -> ZoneData<'a>
-    ensures { zone_of_data result ≡ zone_of zone.entry.now }
-{
-    zone.plain
-}

@@ -1,5 +1,5 @@
 //! Zones and their clocks: lookups by rules of two types, which last transitions such a rule agrees
-//! with, and how long types are lent.
+//! with, and how long types are borrowed.
 
 use crate::expect::{expect_eq, expect_eq_at};
 use std::test::Fail;
@@ -123,7 +123,7 @@ fn the_last_transition_agrees_with_the_rule(rt: HostRuntime) -> Result<(), Fail>
 
 /// The types before a transition at 0 and from there on, of a zone that is gone when they are
 /// handed out.
-fn lent<'a>(
+fn types_around_zero<'a>(
     transitions: &'a [Transition],
     local_time_types: &'a [LocalTimeType],
     extra_rule: &'a Option<TransitionRule>,
@@ -142,7 +142,7 @@ fn types_outlive_the_zone(rt: HostRuntime) -> Result<(), Fail> {
     let transitions = [Transition::new(0, 1)];
     let local_time_types = [LocalTimeType::utc(), later];
     let extra_rule = Some(TransitionRule::Fixed(later));
-    let types = lent(&transitions, &local_time_types, &extra_rule)?;
+    let types = types_around_zero(&transitions, &local_time_types, &extra_rule)?;
     expect_eq(&rt, &types, &(&LocalTimeType::utc(), &later));
     Ok(())
 }

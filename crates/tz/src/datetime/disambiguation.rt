@@ -560,7 +560,7 @@ impl DateTime {
             (fields_of year month month_day hour minute second nanoseconds)) }
     {
         let fields = Fields::new(year, month, month_day, hour, minute, second, nanoseconds);
-        find_one(&fields, disambiguation, &plain(&time_zone_ref))
+        find_one(&fields, disambiguation, &ZoneData::of(&time_zone_ref))
     }
 
     /// The one date time that a local time means. The local time is passed as a [`UtcDateTime`]
@@ -606,7 +606,7 @@ impl DateTime {
         ensures err { IfErr result
             (IsMeaningFault (zone_of time_zone_ref.entry) disambiguation local) }
     {
-        let zone = plain(&time_zone_ref);
+        let zone = ZoneData::of(&time_zone_ref);
         find_one_valid(local.fields(), local.unix_time(), disambiguation, &zone)
     }
 }

@@ -74,7 +74,7 @@ impl DateTime {
     ghost use Rattle.tz.specs.Lists.{found_of, slots_of, count_of, reference_of};
     ghost use Rattle.tz.specs.Outcomes.{AreLooksOf, IsOutcome};
     ghost use Rattle.tz.specs.Slots.{filled};
-    ghost use Rattle.tz.specs.LentSlots.{RestsIfInvalid};
+    ghost use Rattle.tz.specs.BorrowedSlots.{RestsIfInvalid};
     ghost use Rattle.tz.specs.declared.datetime.found.FoundDateTimeKind.{FoundDateTimeKind};
 
     /// All date times at which the zone's clock shows the fields, and the forward jumps over them,
@@ -110,7 +110,7 @@ impl DateTime {
             (fields_of year month month_day hour minute second nanoseconds) result }
     {
         let fields = Fields::new(year, month, month_day, hour, minute, second, nanoseconds);
-        find_fields(alloc, &fields, &plain(&time_zone_ref))
+        find_fields(alloc, &fields, &ZoneData::of(&time_zone_ref))
     }
 
     /// What [`DateTime::find`] returns for the fields of the local time. The `UtcDateTime` is read
@@ -154,7 +154,7 @@ impl DateTime {
             (found_of list)) }
         ensures outcome { IsOutcome (λ e. e) ⊤ (zone_of time_zone_ref.entry) local result }
     {
-        find_fields(alloc, local.fields(), &plain(&time_zone_ref))
+        find_fields(alloc, local.fields(), &ZoneData::of(&time_zone_ref))
     }
 
     /// Writes what [`DateTime::find`] returns to the slots of a buffer, as far as they go, and
@@ -234,7 +234,12 @@ impl DateTime {
         ensures outcome { IsOutcome (λ e. e) ⊥ (zone_of time_zone_ref.entry) local result }
     {
         let mut view = TransitionView::new(time_zone_ref.transitions());
-        match DateTime::listed_in(buf, local.fields(), &mut view, &plain(&time_zone_ref)) {
+        match DateTime::listed_in(
+            buf,
+            local.fields(),
+            &mut view,
+            &ZoneData::of(&time_zone_ref),
+        ) {
             Ok(list) => Ok(list),
             Err(refused) => Err(refused.fault),
         }
@@ -326,7 +331,7 @@ impl DateTime {
     {
         let fields = Fields::new(year, month, month_day, hour, minute, second, nanoseconds);
         let mut view = TransitionView::new(time_zone_ref.transitions());
-        DateTime::listed_in(buf, &fields, &mut view, &plain(&time_zone_ref))
+        DateTime::listed_in(buf, &fields, &mut view, &ZoneData::of(&time_zone_ref))
     }
 
     /// What [`DateTime::find_n_counted`] returns, or the buffer and the error.
@@ -367,7 +372,7 @@ impl DateTime {
     {
         let fields = Fields::new(year, month, month_day, hour, minute, second, nanoseconds);
         let mut view = TransitionView::counted(time_zone_ref.transitions());
-        let list = DateTime::listed_in(buf, &fields, &mut view, &plain(&time_zone_ref))?;
+        let list = DateTime::listed_in(buf, &fields, &mut view, &ZoneData::of(&time_zone_ref))?;
         Ok((list, view.looks()))
     }
 

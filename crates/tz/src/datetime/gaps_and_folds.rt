@@ -11,7 +11,7 @@ ghost use Rattle.tz_zone.specs.Table.{Zone};
 ghost use Rattle.tz_zone.specs.WindowTypes.{AreTypesIn, IfMore, IsPositionOf};
 ghost use Rattle.tz_zone.specs.ZoneOfData.{zone_of_data};
 ghost use Rattle.tz.specs.Entries.{Entry, AreEntries, Finds, HasTwoTypes, IsEntryIn, IsGiven};
-ghost use Rattle.tz.specs.Entries.{IsGivenFault, IsRefused, TakesFrom, lent_type};
+ghost use Rattle.tz.specs.Entries.{IsGivenFault, IsRefused, TakesFrom, borrowed_type};
 ghost use Rattle.tz.specs.FindFaults.{IsSearchFault};
 ghost use Rattle.tz.specs.Found.{EachCanBeMade, IsFound, IsJumpOver};
 ghost use Rattle.tz.specs.Outcomes.{AreLooksOf};
@@ -61,10 +61,10 @@ fn give<'a, E: EntryTaker<'a>>(
     requires small { IsSmall reading }
     requires takes { TakesFrom E.gains E.takes entries.old reading }
     ensures ok { OnOk result ((es : List Entry) × E.gains entries.old entries.new es
-        × IsGiven reading (lent_type before.entry) since (lent_type local_time_type.entry) last
-        es) }
-    ensures err { IfErr result (IsGivenFault E.refuses reading (lent_type before.entry) since
-        (lent_type local_time_type.entry) last) }
+        × IsGiven reading (borrowed_type before.entry) since
+        (borrowed_type local_time_type.entry) last es) }
+    ensures err { IfErr result (IsGivenFault E.refuses reading (borrowed_type before.entry) since
+        (borrowed_type local_time_type.entry) last) }
 {
     let Some(after) = local_time_type else {
         return Ok(());

@@ -97,9 +97,9 @@ impl Parts {
 /// in the next year, and otherwise to its end in the same year.
 #[derive(Clone, Copy)]
 pub struct AlternateTime {
-    plain: AlternateData,
-    // Both days once more: `dst_start()` and `dst_end()` lend a `RuleDay`, which the plain data has
-    // as numbers (`DayData`).
+    rule: AlternateData,
+    // Both days once more: `dst_start()` and `dst_end()` lend a `RuleDay`, which the data has as
+    // numbers (`DayData`).
     dst_start: RuleDay,
     dst_end: RuleDay,
 }
@@ -111,7 +111,7 @@ impl Model for AlternateTime {
 
     ghost use Rattle.tz_rule.specs.RuleWithDays.{HasItsDays, with_days, with_its_days};
 
-    ghost view = { λ r. r.plain };
+    ghost view = { λ r. r.rule };
 
     ghost invariant = { HasItsDays };
 
@@ -182,7 +182,7 @@ impl AlternateTime {
             return Err(TransitionRuleError::InconsistentRule);
         };
         Ok(AlternateTime {
-            plain: AlternateData::of_tables(parts, starts, ends, ends_next_year),
+            rule: AlternateData::of_tables(parts, starts, ends, ends_next_year),
             dst_start,
             dst_end,
         })
@@ -232,14 +232,14 @@ impl AlternateTime {
     pub const fn std(&self) -> &LocalTimeType
         ensures { result.now ≡ self.now.std }
     {
-        self.plain.std()
+        self.rule.std()
     }
 
     /// The type of daylight saving time.
     pub const fn dst(&self) -> &LocalTimeType
         ensures { result.now ≡ self.now.dst }
     {
-        self.plain.dst()
+        self.rule.dst()
     }
 
     /// The day on which daylight saving time starts.
@@ -254,7 +254,7 @@ impl AlternateTime {
     pub const fn dst_start_time(&self) -> i32
         ensures { result ≡ self.now.dst_start_time }
     {
-        self.plain.dst_start_time()
+        self.rule.dst_start_time()
     }
 
     /// The day on which daylight saving time ends.
@@ -269,7 +269,7 @@ impl AlternateTime {
     pub const fn dst_end_time(&self) -> i32
         ensures { result ≡ self.now.dst_end_time }
     {
-        self.plain.dst_end_time()
+        self.rule.dst_end_time()
     }
 }
 
@@ -284,7 +284,7 @@ impl PartialEq for AlternateTime {
         (IsEquivalence-from_equality same_alternate Decides-same_alternate) };
 
     fn eq(&self, other: &AlternateTime) -> bool {
-        let (a, b) = (&self.plain, &other.plain);
+        let (a, b) = (&self.rule, &other.rule);
         a.std() == b.std()
             && (a.dst() == b.dst()
                 && (self.dst_start == other.dst_start
@@ -369,7 +369,7 @@ impl AlternateData {
     pub const fn of(rule: &AlternateTime) -> &Self
         ensures { result.now ≡ rule.now }
     {
-        &rule.plain
+        &rule.rule
     }
 
     /// The rule of parts in range with their tables, whose starts and ends keep their order.

@@ -99,7 +99,7 @@ struct AlternateDataFields {
 
 /// The fields of an alternate rule.
 struct AlternateFields {
-    plain: AlternateDataFields,
+    rule: AlternateDataFields,
     dst_start: RuleDayFields,
     dst_end: RuleDayFields,
 }

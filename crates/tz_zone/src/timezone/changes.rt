@@ -41,7 +41,7 @@ impl<'a> TimeZoneRef<'a> {
         ensures ends { HasTableEnds (zone_of self.now) (segment_of result).from
             (segment_of result).last }
     {
-        self.plain.segment_at(unix_time)
+        self.zone_data.segment_at(unix_time)
     }
 
     /// The first change after an instant, in Unix seconds, or `None` if the clock does not change
@@ -76,7 +76,7 @@ impl<'a> TimeZoneRef<'a> {
         ensures { MatchOption result (HasNoFollowing (zone_of self.now) unix_time)
             (λ c. IsFollowing (zone_of self.now) unix_time (change_of c)) }
     {
-        self.plain.following(unix_time)
+        self.zone_data.following(unix_time)
     }
 
     /// The first change after an instant, and the position after it, for the next call. `position`
@@ -91,7 +91,7 @@ impl<'a> TimeZoneRef<'a> {
         ensures { MatchOption result (HasNoFollowing (zone_of self.now) unix_time)
             (λ found. IsFollowing (zone_of self.now) unix_time (change_of found.0)) }
     {
-        if let Some(found) = clock::change_after_last(&self.plain, unix_time, position) {
+        if let Some(found) = clock::change_after_last(&self.zone_data, unix_time, position) {
             return Some(found);
         }
         self.search_following(unix_time)
@@ -102,7 +102,7 @@ impl<'a> TimeZoneRef<'a> {
         ensures { MatchOption result (HasNoFollowing (zone_of self.now) unix_time)
             (λ found. IsFollowing (zone_of self.now) unix_time (change_of found.0)) }
     {
-        clock::find_following(&self.plain, unix_time)
+        clock::find_following(&self.zone_data, unix_time)
     }
 
     /// The last change before an instant, in Unix seconds, or `None` if the clock has not changed
@@ -123,7 +123,7 @@ impl<'a> TimeZoneRef<'a> {
         ensures { MatchOption result (HasNoPreceding (zone_of self.now) unix_time)
             (λ c. IsPreceding (zone_of self.now) unix_time (change_of c)) }
     {
-        self.plain.preceding(unix_time)
+        self.zone_data.preceding(unix_time)
     }
 
     /// The last change before an instant, and the position before it, for the next call. `position`
@@ -138,7 +138,7 @@ impl<'a> TimeZoneRef<'a> {
         ensures { MatchOption result (HasNoPreceding (zone_of self.now) unix_time)
             (λ found. IsPreceding (zone_of self.now) unix_time (change_of found.0)) }
     {
-        if let Some(found) = clock::change_before_next(&self.plain, unix_time, position) {
+        if let Some(found) = clock::change_before_next(&self.zone_data, unix_time, position) {
             return Some(found);
         }
         self.search_preceding(unix_time)
@@ -149,7 +149,7 @@ impl<'a> TimeZoneRef<'a> {
         ensures { MatchOption result (HasNoPreceding (zone_of self.now) unix_time)
             (λ found. IsPreceding (zone_of self.now) unix_time (change_of found.0)) }
     {
-        clock::find_preceding(&self.plain, unix_time)
+        clock::find_preceding(&self.zone_data, unix_time)
     }
 
     /// The changes after an instant, in Unix seconds, in the order of time: the one that

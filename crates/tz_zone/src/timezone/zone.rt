@@ -5,7 +5,7 @@ ghost use Rattle.tz_zone.specs.Table.{zone_with};
 ghost use Rattle.tz_zone.specs.ValidZone.{IsSoundTable, IsSoundTable-prop, IsValidZone};
 
 use super::zone_checks::{check_parts, offset_range};
-use super::zone_data::lent;
+use super::zone_data::rule_ref;
 use super::{LeapSecond, LocalTimeType, TimeZoneRef, Transition, TransitionRule};
 use std::alloc::{Allocator, Global};
 use std::fmt;
@@ -133,9 +133,12 @@ impl<A: Allocator + Copy> TimeZone<A> {
             &transitions,
             &local_time_types,
             &leap_seconds,
-            lent(&extra_rule),
+            rule_ref(&extra_rule),
         )?;
-        let (least_offset, greatest_offset) = offset_range(&local_time_types, lent(&extra_rule));
+        let (least_offset, greatest_offset) = offset_range(
+            &local_time_types,
+            rule_ref(&extra_rule),
+        );
         Ok(TimeZone {
             transitions,
             local_time_types,

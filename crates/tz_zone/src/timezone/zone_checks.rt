@@ -5,7 +5,7 @@ ghost use Rattle.std.specs.Prelude.{◌≡◌, ℕ, ◌+◌, ◌<◌, length, On
 ghost use Rattle.tz_rule.specs.LocalTimeType.{LocalTimeType};
 ghost use Rattle.tz_rule.specs.RuleRef.{rule_seen};
 ghost use Rattle.tz_zone.specs.Table.{zone_with};
-ghost use Rattle.tz_zone.specs.LentRules.{lent_rule};
+ghost use Rattle.tz_zone.specs.BorrowedRules.{borrowed_rule};
 ghost use Rattle.tz_zone.specs.ValidZone.{IsRuleTypeAt, AreLeapSeconds, HasTypeAtIndex, RisesAtIndex, IsFirstTransitionFault, IsSoundTable, IsRuleFault, RuleAnswers, RuleAgrees, IsValidZone, IsFirstZoneFault};
 ghost use Rattle.tz_zone.specs.Offsets.{IsOffsetOfTypes, IsOffsetOfRule, IsLeastOffset, IsGreatestOffset};
 
@@ -81,16 +81,16 @@ fn check_extra_rule(
     extra_rule: Option<RuleRef<'_>>,
 ) -> Result<(), TzError>
     requires { IsSoundTable (zone_with transitions.now local_time_types.now leap_seconds.now
-        (lent_rule extra_rule)) }
+        (borrowed_rule extra_rule)) }
     ensures answers { OnOk result (RuleAnswers
         (zone_with transitions.now local_time_types.now leap_seconds.now
-        (lent_rule extra_rule.entry))) }
+        (borrowed_rule extra_rule.entry))) }
     ensures agrees { OnOk result (RuleAgrees
         (zone_with transitions.now local_time_types.now leap_seconds.now
-        (lent_rule extra_rule.entry))) }
+        (borrowed_rule extra_rule.entry))) }
     ensures err { IfErr result (IsRuleFault
         (zone_with transitions.now local_time_types.now leap_seconds.now
-        (lent_rule extra_rule.entry))) }
+        (borrowed_rule extra_rule.entry))) }
 {
     let Some(rule) = extra_rule else {
         return Ok(());
@@ -118,10 +118,10 @@ pub(crate) fn check_parts(
 ) -> Result<(), TzError>
     ensures ok { OnOk result (IsValidZone
         (zone_with transitions.now local_time_types.now leap_seconds.now
-        (lent_rule extra_rule.entry))) }
+        (borrowed_rule extra_rule.entry))) }
     ensures err { IfErr result (IsFirstZoneFault
         (zone_with transitions.now local_time_types.now leap_seconds.now
-        (lent_rule extra_rule.entry))) }
+        (borrowed_rule extra_rule.entry))) }
 {
     if local_time_types.is_empty() {
         return Err(TzError::TimeZone(TimeZoneError::NoLocalTimeType));
@@ -190,8 +190,9 @@ pub(super) fn offset_range(
     extra_rule: Option<RuleRef<'_>>,
 ) -> (i32, i32)
     requires { 0 < length local_time_types.now }
-    ensures least { IsLeastOffset local_time_types.now (lent_rule extra_rule.entry) result.0 }
-    ensures greatest { IsGreatestOffset local_time_types.now (lent_rule extra_rule.entry) result.1 }
+    ensures least { IsLeastOffset local_time_types.now (borrowed_rule extra_rule.entry) result.0 }
+    ensures greatest { IsGreatestOffset local_time_types.now (borrowed_rule extra_rule.entry)
+        result.1 }
 {
     let (least, greatest) = offsets_of_types(local_time_types);
     match extra_rule {

@@ -6,10 +6,10 @@ ghost use Rattle.std.specs.Int.{w32};
 ghost use Rattle.tz_zone.specs.Offsets.{AreEndOffsets};
 ghost use Rattle.tz_zone.specs.Table.{zone_with};
 ghost use Rattle.tz_zone.specs.ValidZone.{IsSoundTable, IsSoundTable-prop, IsValidZone};
-ghost use Rattle.tz_zone.specs.LentRules.{lent_rule};
+ghost use Rattle.tz_zone.specs.BorrowedRules.{borrowed_rule};
 
 use super::zone_checks::{check_parts, offset_range};
-use super::{Change, LeapSecond, LocalTimeType, Segment, Transition, TransitionRule};
+use super::{Change, LeapSecond, LocalTimeType, Segment, TimeZoneRef, Transition, TransitionRule};
 use crate::clock::{self, find_following, find_preceding};
 use crate::table::TransitionView;
 use tz_base::error::TzError;
@@ -26,21 +26,21 @@ pub struct ZoneData<'a> {
     greatest_offset: i32,
     ghost sound: { IsSoundTable
         (zone_with transitions.now local_time_types.now leap_seconds.now
-        (lent_rule rule)) } by { IsSoundTable-prop
+        (borrowed_rule rule)) } by { IsSoundTable-prop
             (zone_with transitions.now local_time_types.now leap_seconds.now
-            (lent_rule rule)) },
+            (borrowed_rule rule)) },
     ghost valid: { ∥ IsValidZone (zone_with transitions.now local_time_types.now leap_seconds.now
-        (lent_rule rule)) ∥₁ },
+        (borrowed_rule rule)) ∥₁ },
     ghost offsets: { ∥ AreEndOffsets
         (zone_with transitions.now local_time_types.now leap_seconds.now
-        (lent_rule rule)) least_offset greatest_offset ∥₁ },
+        (borrowed_rule rule)) least_offset greatest_offset ∥₁ },
     ghost least_fits: { SFits w32 least_offset },
     ghost greatest_fits: { SFits w32 greatest_offset },
 }
 
 /// Lends a rule, if there is one.
-pub(super) const fn lent(extra_rule: &Option<TransitionRule>) -> Option<RuleRef<'_>>
-    ensures { lent_rule result ≡ extra_rule.now }
+pub(super) const fn rule_ref(extra_rule: &Option<TransitionRule>) -> Option<RuleRef<'_>>
+    ensures { borrowed_rule result ≡ extra_rule.now }
 {
     match extra_rule {
         Some(rule) => Some(RuleRef::of(rule)),
@@ -56,10 +56,18 @@ impl<'a> ZoneData<'a> {
     ghost use Rattle.tz_zone.specs.Table.{zone_with};
     ghost use Rattle.tz_zone.specs.TableChanges.{HasTableEnds};
     ghost use Rattle.tz_zone.specs.ValidZone.{IsSoundTable, IsValidZone, IsFirstZoneFault};
-    ghost use Rattle.tz_zone.specs.LentRules.{lent_rule};
+    ghost use Rattle.tz_zone.specs.BorrowedRules.{borrowed_rule};
     ghost use Rattle.tz_zone.specs.ZoneOfData.{zone_of_data};
+    ghost use Rattle.tz_zone.specs.ZoneRef.{zone_of};
 
-    /// The zone with these parts, which are checked as `TimeZoneRef::new` checks them.
+    /// The data of a zone.
+    pub const fn of(zone: &TimeZoneRef<'a>) -> Self
+        ensures { zone_of_data result ≡ zone_of zone.entry.now }
+    {
+        zone.zone_data
+    }
+
+    /// The zone with these parts, once they are checked.
     pub fn new(
         transitions: &'a [Transition],
         local_time_types: &'a [LocalTimeType],
@@ -68,12 +76,12 @@ impl<'a> ZoneData<'a> {
     ) -> Result<Self, TzError>
         ensures parts { IfOk result (λ z. zone_of_data z
             ≡ zone_with transitions.now local_time_types.now
-            leap_seconds.now (lent_rule rule.entry)) }
+            leap_seconds.now (borrowed_rule rule.entry)) }
         ensures ok { OnOk result (IsValidZone (zone_with transitions.now local_time_types.now
-            leap_seconds.now (lent_rule rule.entry))) }
+            leap_seconds.now (borrowed_rule rule.entry))) }
         ensures err { IfErr result (IsFirstZoneFault
             (zone_with transitions.now local_time_types.now leap_seconds.now
-            (lent_rule rule.entry))) }
+            (borrowed_rule rule.entry))) }
     {
         check_parts(transitions, local_time_types, leap_seconds, rule)?;
         let (least_offset, greatest_offset) = offset_range(local_time_types, rule);
@@ -97,14 +105,14 @@ impl<'a> ZoneData<'a> {
         greatest_offset: i32,
     ) -> Self
         requires sound { IsSoundTable (zone_with
-            transitions.now local_time_types.now leap_seconds.now (lent_rule rule)) }
+            transitions.now local_time_types.now leap_seconds.now (borrowed_rule rule)) }
         requires valid { ∥ IsValidZone (zone_with
-            transitions.now local_time_types.now leap_seconds.now (lent_rule rule)) ∥₁ }
+            transitions.now local_time_types.now leap_seconds.now (borrowed_rule rule)) ∥₁ }
         requires offsets { ∥ AreEndOffsets (zone_with
-            transitions.now local_time_types.now leap_seconds.now (lent_rule rule))
+            transitions.now local_time_types.now leap_seconds.now (borrowed_rule rule))
             least_offset greatest_offset ∥₁ }
         ensures { zone_of_data result ≡ zone_with
-            transitions.now local_time_types.now leap_seconds.now (lent_rule rule.entry) }
+            transitions.now local_time_types.now leap_seconds.now (borrowed_rule rule.entry) }
     {
         ZoneData {
             transitions,
@@ -139,7 +147,7 @@ impl<'a> ZoneData<'a> {
 
     /// The rule from the last transition on, lent.
     pub const fn rule(&self) -> Option<RuleRef<'a>>
-        ensures { lent_rule result ≡ (zone_of_data self.now).extra_rule }
+        ensures { borrowed_rule result ≡ (zone_of_data self.now).extra_rule }
     {
         self.rule
     }

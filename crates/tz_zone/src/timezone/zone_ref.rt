@@ -1,9 +1,9 @@
 //! Borrowed time zones.
 
 ghost use Rattle.std.specs.Prelude.{◌≡◌};
-ghost use Rattle.tz_zone.specs.LentRules.{lent_rule};
+ghost use Rattle.tz_zone.specs.BorrowedRules.{borrowed_rule};
 
-use super::zone_data::{ZoneData, lent};
+use super::zone_data::{ZoneData, rule_ref};
 use super::{LeapSecond, LocalTimeType, Transition, TransitionRule};
 use crate::clock;
 use crate::leap::table_checks::expiry;
@@ -18,10 +18,10 @@ use tz_base::error::TzError;
 /// does.
 #[derive(Clone, Copy)]
 pub struct TimeZoneRef<'a> {
-    pub(crate) plain: ZoneData<'a>,
-    // The rule that `plain` keeps, as `extra_rule` returns it.
+    pub(crate) zone_data: ZoneData<'a>,
+    // The rule that `zone_data` keeps, as `extra_rule` returns it.
     extra_rule: &'a Option<TransitionRule>,
-    ghost same: { lent_rule plain.rule ≡ extra_rule.now },
+    ghost same: { borrowed_rule zone_data.rule ≡ extra_rule.now },
 }
 
 impl<'a> PartialEq for TimeZoneRef<'a> {
@@ -36,9 +36,9 @@ impl<'a> PartialEq for TimeZoneRef<'a> {
         (IsEquivalence-from_equality same_zone Decides-same_zone)) };
 
     fn eq(&self, other: &TimeZoneRef<'a>) -> bool {
-        self.plain.transitions == other.plain.transitions
-            && self.plain.local_time_types == other.plain.local_time_types
-            && self.plain.leap_seconds == other.plain.leap_seconds
+        self.zone_data.transitions == other.zone_data.transitions
+            && self.zone_data.local_time_types == other.zone_data.local_time_types
+            && self.zone_data.leap_seconds == other.zone_data.leap_seconds
             && self.extra_rule == other.extra_rule
     }
 }
@@ -63,9 +63,9 @@ impl<'a> Hash for TimeZoneRef<'a> {
     ghost respects_eq = { λ a b h. ap zone_input ((Decides-same_zone (zone_of a) (zone_of b)).0 h) };
 
     fn hash<H: Hasher>(&self, state: &mut H) {
-        self.plain.transitions.hash(state);
-        self.plain.local_time_types.hash(state);
-        self.plain.leap_seconds.hash(state);
+        self.zone_data.transitions.hash(state);
+        self.zone_data.local_time_types.hash(state);
+        self.zone_data.leap_seconds.hash(state);
         self.extra_rule.hash(state);
     }
 }
@@ -128,9 +128,12 @@ impl<'a> TimeZoneRef<'a> {
         ensures err { IfErr result (IsFirstZoneFault
             (zone_with transitions.now local_time_types.now leap_seconds.now extra_rule.now)) }
     {
-        let rule = lent(extra_rule);
-        let plain = ZoneData::new(transitions, local_time_types, leap_seconds, rule)?;
-        Ok(TimeZoneRef { plain, extra_rule })
+        let rule = rule_ref(extra_rule);
+        let zone_data = ZoneData::new(transitions, local_time_types, leap_seconds, rule)?;
+        Ok(TimeZoneRef {
+            zone_data,
+            extra_rule,
+        })
     }
 
     /// The zone with parts that are known to make one, and with its least and its greatest offset.
@@ -154,15 +157,18 @@ impl<'a> TimeZoneRef<'a> {
         ensures { zone_of result ≡ zone_with transitions.now local_time_types.now leap_seconds.now
             extra_rule.now }
     {
-        let plain = ZoneData::from_valid_parts(
+        let zone_data = ZoneData::from_valid_parts(
             transitions,
             local_time_types,
             leap_seconds,
-            lent(extra_rule),
+            rule_ref(extra_rule),
             least_offset,
             greatest_offset,
         );
-        TimeZoneRef { plain, extra_rule }
+        TimeZoneRef {
+            zone_data,
+            extra_rule,
+        }
     }
 
     /// The zone of UTC. Does not allocate.
@@ -183,21 +189,21 @@ impl<'a> TimeZoneRef<'a> {
     pub const fn transitions(&self) -> &'a [Transition]
         ensures { result.now ≡ (zone_of self.now).transitions }
     {
-        self.plain.transitions
+        self.zone_data.transitions
     }
 
     /// The local time types, which the transitions name by their numbers.
     pub const fn local_time_types(&self) -> &'a [LocalTimeType]
         ensures { result.now ≡ (zone_of self.now).types }
     {
-        self.plain.local_time_types
+        self.zone_data.local_time_types
     }
 
     /// The leap seconds, in order.
     pub const fn leap_seconds(&self) -> &'a [LeapSecond]
         ensures { result.now ≡ (zone_of self.now).leap_seconds }
     {
-        self.plain.leap_seconds
+        self.zone_data.leap_seconds
     }
 
     /// The leap time at which the leap-second table expires: that of a last record that repeats the
@@ -207,7 +213,7 @@ impl<'a> TimeZoneRef<'a> {
         ensures none { IfNone result ((time : ℤ)
             → ¬ ExpiresAt (zone_of self.now).leap_seconds time) }
     {
-        expiry(self.plain.leap_seconds)
+        expiry(self.zone_data.leap_seconds)
     }
 
     /// The rule from the last transition on.
@@ -237,7 +243,7 @@ impl<'a> TimeZoneRef<'a> {
         ensures ok { IfOk result (λ t. IsClock (zone_of self.now) unix_time t.now) }
         ensures err { IfErr result (IsLookupFault (zone_of self.now) unix_time) }
     {
-        self.plain.find_local_time_type(unix_time)
+        self.zone_data.find_local_time_type(unix_time)
     }
 
     /// The clock's type at an instant, and how many transitions were read. The count saturates at
@@ -257,8 +263,8 @@ impl<'a> TimeZoneRef<'a> {
         ensures at_least_one { 0 < length (zone_of self.now).transitions → 1 ≤ result.1 }
         ensures none { (zone_of self.now).transitions ≡ [] → result.1 ≡ 0 }
     {
-        let mut view = TransitionView::counted(self.plain.transitions);
-        let answer = clock::find_local_time_type(&mut view, &self.plain, unix_time);
+        let mut view = TransitionView::counted(self.zone_data.transitions);
+        let answer = clock::find_local_time_type(&mut view, &self.zone_data, unix_time);
         (answer, view.looks())
     }
 }
@@ -267,9 +273,9 @@ impl<'a> TimeZoneRef<'a> {
 impl fmt::Debug for TimeZoneRef<'_> {
     fn fmt<W: fmt::Write>(&self, f: &mut fmt::Formatter<W>) -> fmt::Result {
         f.debug_struct("TimeZoneRef")
-            .field("transitions", &self.plain.transitions)
-            .field("local_time_types", &self.plain.local_time_types)
-            .field("leap_seconds", &self.plain.leap_seconds)
+            .field("transitions", &self.zone_data.transitions)
+            .field("local_time_types", &self.zone_data.local_time_types)
+            .field("leap_seconds", &self.zone_data.leap_seconds)
             .field("extra_rule", &self.extra_rule)
             .finish()
     }

@@ -1,6 +1,6 @@
 // Tests from crates/tz_zone_tests/src/zones.rt by bindings/erase. Change that file instead.
 //! Zones and their clocks: lookups by rules of two types, which last transitions such a rule agrees
-//! with, and how long types are lent.
+//! with, and how long types are borrowed.
 
 use crate::erased::tz_samples::faults::{Fault, named};
 use crate::erased::tz_samples::tz_strings::extended_rule;
@@ -130,8 +130,8 @@ fn the_last_transition_agrees_with_the_rule() -> Result<(), Fail> {
 }
 
 /// The types before a transition at 0 and from there on, of a zone that is gone when they are
-/// handed out.
-fn lent<'a>(
+/// returned.
+fn types_around_zero<'a>(
     transitions: &'a [Transition],
     local_time_types: &'a [LocalTimeType],
     extra_rule: &'a Option<TransitionRule>,
@@ -143,7 +143,7 @@ fn lent<'a>(
     ))
 }
 
-/// A type is lent for as long as the zone's list lives, and not only for as long as the zone.
+/// A type is borrowed from the zone's list, so it can outlive the zone.
 #[test]
 fn types_outlive_the_zone() -> Result<(), Fail> {
     let rt = kit::HostRuntime;
@@ -152,7 +152,7 @@ fn types_outlive_the_zone() -> Result<(), Fail> {
     let transitions = [Transition::new(0, 1)];
     let local_time_types = [LocalTimeType::utc(), later];
     let extra_rule = Some(TransitionRule::Fixed(later));
-    let types = lent(&transitions, &local_time_types, &extra_rule)?;
+    let types = types_around_zero(&transitions, &local_time_types, &extra_rule)?;
     expect_eq(&rt, &types, &(&LocalTimeType::utc(), &later));
     Ok(())
 }

@@ -14,7 +14,7 @@ returns-then-nanoseconds-ge-NANOSECONDS_PER_SECOND-clause-answer c =
 pub returns-in-Err-clause-answer : goal.returns-in-Err-clause-answer
 returns-in-Err-clause-answer c =
     let few : c.args.nanoseconds < 1000000000 = search rules in
-    let fault = subst (λ (z : Zone). IsLookupFault z c.args.unix_time c.in-Err.error) c.lent.ensures
+    let fault = subst (λ (z : Zone). IsLookupFault z c.args.unix_time c.in-Err.error) c.as_zone_data.ensures
     (rw (to_z-of_z w64 c.args.unix_time c.ranges.unix_time) at c.in-Err.ensures.err) in
     inr (c.in-Err.error, c.code_of.ensures, inr (inl (few, fault)))
 
@@ -22,7 +22,7 @@ pub returns-in_default-clause-answer : goal.returns-in_default-clause-answer
 returns-in_default-clause-answer c =
     let few : c.args.nanoseconds < 1000000000 = search rules in
     let t = c.in-Ok.local_time_type.now in
-    let is_clock = subst (λ (z : Zone). IsClock z c.args.unix_time c.in-Ok.local_time_type.now) c.lent.ensures
+    let is_clock = subst (λ (z : Zone). IsClock z c.args.unix_time c.in-Ok.local_time_type.now) c.as_zone_data.ensures
     (rw (to_z-of_z w64 c.args.unix_time c.ranges.unix_time) at c.in-Ok.ensures.ok) in
     let fits : SFits w32 c.ut_offset.result = search rules in
     let none : ¬ IsReading (c.args.unix_time +ℤ t.ut_offset) =
@@ -38,7 +38,7 @@ pub returns-clause-answer : goal.returns-clause-answer
 returns-clause-answer c =
     let t = c.in-Ok.local_time_type.now in
     let reading = c.in-Some.reading in
-    let is_clock = subst (λ (z : Zone). IsClock z c.args.unix_time c.in-Ok.local_time_type.now) c.lent.ensures
+    let is_clock = subst (λ (z : Zone). IsClock z c.args.unix_time c.in-Ok.local_time_type.now) c.as_zone_data.ensures
     (rw (to_z-of_z w64 c.args.unix_time c.ranges.unix_time) at c.in-Ok.ensures.ok) in
     let offset_fits : SFits w32 c.ut_offset.result = search rules in
     let shown : reading ≡ c.args.unix_time +ℤ t.ut_offset =

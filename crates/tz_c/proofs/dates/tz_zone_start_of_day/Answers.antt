@@ -10,7 +10,7 @@ pub returns-in-Err-first_of_day-clause-answer : goal.returns-in-Err-first_of_day
 returns-in-Err-first_of_day-clause-answer c =
     let error = c.in-Err-first_of_day.error in
     let day = number_of (date_given c.args.date.now) in
-    let fault = subst (λ (z : Zone). IsStartFault z day error) c.lent.ensures
+    let fault = subst (λ (z : Zone). IsStartFault z day error) c.as_zone_data.ensures
     (rw (
       to_z-of_z w64 c.day_number.result (search rules),
       c.day_number.ensures.value,

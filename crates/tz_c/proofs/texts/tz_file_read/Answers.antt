@@ -18,8 +18,8 @@ returns-else-leap_seconds-clause-answer c =
     let file = subst (λ (z : Zone). IsTzFile c.args.bytes.now z) (sym (same ∙ c.as_ref-read.ensures))
     c.in-Ok.ensures.ok in
     let ends = c.offsets-least in
-    let lent = sym (same ∙ sym c.plain.ensures) in
-    let are = subst (λ (z : Zone). AreEndOffsets z ends.result.0 ends.result.1) lent ends.ensures in
+    let kept = sym (same ∙ sym c.of-in-Ok.ensures) in
+    let are = subst (λ (z : Zone). AreEndOffsets z ends.result.0 ends.result.1) kept ends.ensures in
     let fits_least : SFits w32 ends.result.0 = search rules in
     let fits_greatest : SFits w32 ends.result.1 = search rules in
     rw (to_z-of_z w32 ends.result.0 fits_least, to_z-of_z w32 ends.result.1 fits_greatest)

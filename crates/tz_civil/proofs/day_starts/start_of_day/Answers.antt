@@ -15,7 +15,7 @@ use Rattle.tz_civil.proofs.day_starts.start_of_day.Goals as goal
 
 pub returns-in_default-clause-ok : goal.returns-in_default-clause-ok
 returns-in_default-clause-ok c =
-    subst (λ (z : Zone). IsSkippedDay z (number_of c.args.date)) c.plain.ensures
+    subst (λ (z : Zone). IsSkippedDay z (number_of c.args.date)) c.of.ensures
     (rw (
       to_z-of_z w64 c.day_number.result (search rules),
       c.day_number.ensures.value,
@@ -29,7 +29,7 @@ returns-in-Err-clause-err c =
     let t = c.in-Some.shown.local_time_type.now in
     let (t', clock, of_day) = found.0.shown in
     let same =
-    ap (λ (x : LocalTimeType). x.ut_offset) (one_type (zone_of_data c.plain.result) u t t' found.1 clock) in
+    ap (λ (x : LocalTimeType). x.ut_offset) (one_type (zone_of_data c.of.result) u t t' found.1 clock) in
     let bound = c.day_number.ensures.bound in
     elim c.in-Err.ensures.err [
       | inl many ↦ absurd (omega (arith, many.1))
@@ -42,7 +42,7 @@ returns-in-Ok-clause-ok c =
     let z = zone_of c.args.zone.now in
     let u = c.in-Some.shown.unix_time in
     let t = c.in-Some.shown.local_time_type.now in
-    let found = subst (λ (x : Zone). StartsWith x (number_of c.args.date) u t) c.plain.ensures
+    let found = subst (λ (x : Zone). StartsWith x (number_of c.args.date) u t) c.of.ensures
     (rw (
       to_z-of_z w64 c.day_number.result (search rules),
       c.day_number.ensures.value,

@@ -25,7 +25,7 @@ returns-in-None c =
     at c.in_ok-meant_in.ensures.ok in
     record {
       ok = none_meant z f valid (has.0, has.1, has.2) c.args.disambiguation (sym has.3
-          ∙ ap (λ (e : Option LentEntry). option_map entry_of e) c.in-None.is);
+          ∙ ap (λ (e : Option BorrowedEntry). option_map entry_of e) c.in-None.is);
       made = each_made z f valid (has.0, has.1, has.2);
       err = search rules;
     }
@@ -40,8 +40,8 @@ of_fields-date_time-requires-clause-instant c =
     let u = c.in-Some-Shown.unix_time in
     let t = c.in-Some-Shown.local_time_type in
     let is : entry_meant c.args.disambiguation has.0 ≡ Some (Shown u t.now) =
-    sym has.3 ∙ ap (λ (e : Option LentEntry). option_map entry_of e)
-    (c.in-Some-Shown.is ∙ ap (λ (e : LentEntry). Some e) c.in-Some-Shown.field-0-is) in
+    sym has.3 ∙ ap (λ (e : Option BorrowedEntry). option_map entry_of e)
+    (c.in-Some-Shown.is ∙ ap (λ (e : BorrowedEntry). Some e) c.in-Some-Shown.field-0-is) in
     let meant = shown_meant z f valid (has.0, has.1, has.2) c.args.disambiguation u t.now is in
     rw (to_z-of_z w64 u (search rules)) (omega (arith, ints, meant.0.1))
 
@@ -55,8 +55,8 @@ returns-in-Some-Shown c =
     let u = c.in-Some-Shown.unix_time in
     let t = c.in-Some-Shown.local_time_type in
     let is : entry_meant c.args.disambiguation has.0 ≡ Some (Shown u t.now) =
-    sym has.3 ∙ ap (λ (e : Option LentEntry). option_map entry_of e)
-    (c.in-Some-Shown.is ∙ ap (λ (e : LentEntry). Some e) c.in-Some-Shown.field-0-is) in
+    sym has.3 ∙ ap (λ (e : Option BorrowedEntry). option_map entry_of e)
+    (c.in-Some-Shown.is ∙ ap (λ (e : BorrowedEntry). Some e) c.in-Some-Shown.field-0-is) in
     let meant = shown_meant z f valid (has.0, has.1, has.2) c.args.disambiguation u t.now is in
     record {
       ok = rw (c.of_fields-date_time.ensures, to_z-of_z w64 u (search rules)) meant.1;
@@ -75,8 +75,8 @@ returns-in_ok-shown_apart-in-Some-Jump c =
     let a = c.in-Some-Jump.before in
     let b = c.in-Some-Jump.after in
     let is : entry_meant c.args.disambiguation has.0 ≡ Some (Jump u a.now b.now) =
-    sym has.3 ∙ ap (λ (e : Option LentEntry). option_map entry_of e)
-    (c.in-Some-Jump.is ∙ ap (λ (e : LentEntry). Some e) c.in-Some-Jump.field-0-is) in
+    sym has.3 ∙ ap (λ (e : Option BorrowedEntry). option_map entry_of e)
+    (c.in-Some-Jump.is ∙ ap (λ (e : BorrowedEntry). Some e) c.in-Some-Jump.field-0-is) in
     let instant = to_z-of_z w64 c.lookup_instant-unix_time.result (search rules) ∙ c.lookup_instant-unix_time.ensures in
     let shown = rw instant at c.in_ok-shown_apart-in-Some-Jump.ensures.ok in
     record {
@@ -98,8 +98,8 @@ returns-in_err-shown_apart-in-Some-Jump-clause-err c =
     let a = c.in-Some-Jump.before in
     let b = c.in-Some-Jump.after in
     let is : entry_meant c.args.disambiguation has.0 ≡ Some (Jump u a.now b.now) =
-    sym has.3 ∙ ap (λ (e : Option LentEntry). option_map entry_of e)
-    (c.in-Some-Jump.is ∙ ap (λ (e : LentEntry). Some e) c.in-Some-Jump.field-0-is) in
+    sym has.3 ∙ ap (λ (e : Option BorrowedEntry). option_map entry_of e)
+    (c.in-Some-Jump.is ∙ ap (λ (e : BorrowedEntry). Some e) c.in-Some-Jump.field-0-is) in
     let instant = to_z-of_z w64 c.lookup_instant-unix_time.result (search rules) ∙ c.lookup_instant-unix_time.ensures in
     let residual = c.from_residual-in_err-shown_apart-in-Some-Jump in
     let p = err_from_is_err_and residual.result residual.ensures.1 in

@@ -53,7 +53,7 @@ of_fields-date_time-requires-clause-instant c =
     let u = c.in-Shown.unix_time in
     let means = means_once z f valid (has.0, has.1, has.2) u c.in-Shown.local_time_type.now
     (one_of has.0 c.in_ok-ends.ends has.3 _ c.if-ends-eq1.true
-    (c.in-Some.is ∙ ap (λ (e : LentEntry). Some e) c.in-Shown.is)) in
+    (c.in-Some.is ∙ ap (λ (e : BorrowedEntry). Some e) c.in-Shown.is)) in
     rw (to_z-of_z w64 u (search rules)) (omega (arith, ints, means.0.1))
 
 pub returns-in-Shown : goal.returns-in-Shown
@@ -66,7 +66,7 @@ returns-in-Shown c =
     let u = c.in-Shown.unix_time in
     let means = means_once z f valid (has.0, has.1, has.2) u c.in-Shown.local_time_type.now
     (one_of has.0 c.in_ok-ends.ends has.3 _ c.if-ends-eq1.true
-    (c.in-Some.is ∙ ap (λ (e : LentEntry). Some e) c.in-Shown.is)) in
+    (c.in-Some.is ∙ ap (λ (e : BorrowedEntry). Some e) c.in-Shown.is)) in
     record {
       ok = rw (c.of_fields-date_time.ensures, to_z-of_z w64 u (search rules)) means.1;
       outcome = record {
@@ -88,8 +88,8 @@ of_fields-first-requires-clause-instant c =
     let v = c.in-Shown-last.later in
     let means = means_twice z f valid (has.0, has.1, has.2) u c.in-Shown-2.before.now v c.in-Shown-last.after.now
     (two_of has.0 c.in_ok-ends.ends has.3 _ _ c.if-ends-eq2.true
-    (c.in-Some.is ∙ ap (λ (e : LentEntry). Some e) c.in-Shown-2.is)
-    (c.in-Some-last.is ∙ ap (λ (e : LentEntry). Some e) c.in-Shown-last.is)) in
+    (c.in-Some.is ∙ ap (λ (e : BorrowedEntry). Some e) c.in-Shown-2.is)
+    (c.in-Some-last.is ∙ ap (λ (e : BorrowedEntry). Some e) c.in-Shown-last.is)) in
     rw (to_z-of_z w64 u (search rules)) (omega (arith, ints, means.0.1))
 
 pub of_fields-last-requires-clause-instant : goal.of_fields-last-requires-clause-instant
@@ -103,8 +103,8 @@ of_fields-last-requires-clause-instant c =
     let v = c.in-Shown-last.later in
     let means = means_twice z f valid (has.0, has.1, has.2) u c.in-Shown-2.before.now v c.in-Shown-last.after.now
     (two_of has.0 c.in_ok-ends.ends has.3 _ _ c.if-ends-eq2.true
-    (c.in-Some.is ∙ ap (λ (e : LentEntry). Some e) c.in-Shown-2.is)
-    (c.in-Some-last.is ∙ ap (λ (e : LentEntry). Some e) c.in-Shown-last.is)) in
+    (c.in-Some.is ∙ ap (λ (e : BorrowedEntry). Some e) c.in-Shown-2.is)
+    (c.in-Some-last.is ∙ ap (λ (e : BorrowedEntry). Some e) c.in-Shown-last.is)) in
     rw (to_z-of_z w64 v (search rules)) (omega (arith, ints, means.1.1))
 
 pub returns-in-Shown-last : goal.returns-in-Shown-last
@@ -118,8 +118,8 @@ returns-in-Shown-last c =
     let v = c.in-Shown-last.later in
     let means = means_twice z f valid (has.0, has.1, has.2) u c.in-Shown-2.before.now v c.in-Shown-last.after.now
     (two_of has.0 c.in_ok-ends.ends has.3 _ _ c.if-ends-eq2.true
-    (c.in-Some.is ∙ ap (λ (e : LentEntry). Some e) c.in-Shown-2.is)
-    (c.in-Some-last.is ∙ ap (λ (e : LentEntry). Some e) c.in-Shown-last.is)) in
+    (c.in-Some.is ∙ ap (λ (e : BorrowedEntry). Some e) c.in-Shown-2.is)
+    (c.in-Some-last.is ∙ ap (λ (e : BorrowedEntry). Some e) c.in-Shown-last.is)) in
     record {
       ok = rw (
         c.of_fields-first.ensures,
@@ -149,7 +149,7 @@ returns-in_err-before_transition-in-Jump-clause-outcome c =
     let b = c.in-Jump.after.now in
     let u_is = to_z-of_z w64 u (search rules) in
     let one = one_of has.0 c.in_ok-ends.ends has.3 _ c.if-ends-eq1-2.true
-    (c.in-Some.is ∙ ap (λ (e : LentEntry). Some e) c.in-Jump.is) in
+    (c.in-Some.is ∙ ap (λ (e : BorrowedEntry). Some e) c.in-Jump.is) in
     let inside = sides_inside z f valid (has.0, has.1, has.2) u a b one in
     absurd ((rw u_is at c.in_err-before_transition-in-Jump.ensures.err).1 inside.0)
 
@@ -166,7 +166,7 @@ returns-in_err-after_transition-in-Jump-clause-outcome c =
     let b = c.in-Jump.after.now in
     let u_is = to_z-of_z w64 u (search rules) in
     let one = one_of has.0 c.in_ok-ends.ends has.3 _ c.if-ends-eq1-2.true
-    (c.in-Some.is ∙ ap (λ (e : LentEntry). Some e) c.in-Jump.is) in
+    (c.in-Some.is ∙ ap (λ (e : BorrowedEntry). Some e) c.in-Jump.is) in
     let inside = sides_inside z f valid (has.0, has.1, has.2) u a b one in
     absurd ((rw u_is at c.in_err-after_transition-in-Jump.ensures.err).1 inside.1)
 
@@ -182,7 +182,7 @@ returns-in_ok-after_transition-in-Jump c =
     let b = c.in-Jump.after.now in
     let u_is = to_z-of_z w64 u (search rules) in
     let one = one_of has.0 c.in_ok-ends.ends has.3 _ c.if-ends-eq1-2.true
-    (c.in-Some.is ∙ ap (λ (e : LentEntry). Some e) c.in-Jump.is) in
+    (c.in-Some.is ∙ ap (λ (e : BorrowedEntry). Some e) c.in-Jump.is) in
     let first = c.in_ok-before_transition-in-Jump in
     let second = c.in_ok-after_transition-in-Jump in
     record {
@@ -205,7 +205,7 @@ returns-in-Jump-last c =
     let has = rw (to_z-of_z w64 c.reading-reading.result (search rules)
     ∙ c.reading-reading.ensures.value) at c.in_ok-ends.ensures.ok in
     let more = more_with_jump has.0 c.in_ok-ends.ends has.3 c.in-Some.first c.if-ends-eq2.true c.in-Some.is _ _ _
-    (c.in-Some-last.is ∙ ap (λ (e : LentEntry). Some e) c.in-Jump-last.is) in
+    (c.in-Some-last.is ∙ ap (λ (e : BorrowedEntry). Some e) c.in-Jump-last.is) in
     record {
       ok = subst (λ (n : ℕ). HasMeaning z f (More n)) (sym has.3.count_is ∙ c.if-ends-eq2.true)
           (means_more z f valid (has.0, has.1, has.2) more);
@@ -230,7 +230,7 @@ returns-in_default-first c =
           w.if-ends-eq2.false
       | in_default-first-via-in-Jump+else-ends-eq1-2 w ↦
           more_than_jump has.0 c.in_ok-ends.ends has.3 _ _ _
-          (c.in-Some.is ∙ ap (λ (e : LentEntry). Some e) w.in-Jump.is) w.if-ends-eq1-2.false
+          (c.in-Some.is ∙ ap (λ (e : BorrowedEntry). Some e) w.in-Jump.is) w.if-ends-eq1-2.false
     ] in
     record {
       ok = subst (λ (n : ℕ). HasMeaning z f (More n)) (sym has.3.count_is)

@@ -1,5 +1,5 @@
 -- The type shows the reading after the span, or before it and after that of the type before.
-use Rattle.tz.proofs.Common.{arith, refl, ints, inl, [], ap, to_z-of_z, rules, w64, lent_type}
+use Rattle.tz.proofs.Common.{arith, refl, ints, inl, [], ap, to_z-of_z, rules, w64, borrowed_type}
 use Rattle.tz.proofs.EntryWalks.{none_beside, none_first, none_late}
 use Rattle.tz.proofs.datetime.gaps_and_folds.give.Goals as goal
 use Rattle.tz.proofs.datetime.gaps_and_folds.give.Goals.{else-since-unix_time-via-then-since-unix_time+else-unix_time-last, else-since-unix_time-via-else-since-unix_time}
@@ -17,8 +17,8 @@ returns-in_default-before-clause-ok g c =
         refl,
         elim c.else-since-unix_time.branch [
           | else-since-unix_time-via-then-since-unix_time+else-unix_time-last w ↦
-              none_late c.args.reading (lent_type c.args.before) c.args.since (lent_type c.args.local_time_type)
-              c.args.last c.in-Some.after.now u (ap lent_type c.in-Some.is) at
+              none_late c.args.reading (borrowed_type c.args.before) c.args.since (borrowed_type c.args.local_time_type)
+              c.args.last c.in-Some.after.now u (ap borrowed_type c.in-Some.is) at
               (omega (arith, ints, w.if-since-unix_time.true, since_is, unix_time_is))
               (omega (
                 arith,
@@ -28,9 +28,10 @@ returns-in_default-before-clause-ok g c =
                 unix_time_is,
               ))
           | else-since-unix_time-via-else-since-unix_time w ↦
-              none_beside c.args.reading (lent_type c.args.before) c.args.since (lent_type c.args.local_time_type)
-              c.args.last c.in-Some-before.before.now c.in-Some.after.now u (ap lent_type c.in-Some-before.is)
-              (ap lent_type c.in-Some.is)
+              none_beside c.args.reading (borrowed_type c.args.before) c.args.since
+              (borrowed_type c.args.local_time_type) c.args.last c.in-Some-before.before.now
+              c.in-Some.after.now u (ap borrowed_type c.in-Some-before.is)
+              (ap borrowed_type c.in-Some.is)
               at (omega (arith, ints, w.if-since-unix_time.false, since_is, unix_time_is))
               (rw (reading_is, since_is) at c.if-passes_over.ensures)
         ],
@@ -49,8 +50,8 @@ returns-in_default-before-2-clause-ok g c =
         refl,
         elim c.else-since-unix_time.branch [
           | else-since-unix_time-via-then-since-unix_time+else-unix_time-last w ↦
-              none_late c.args.reading (lent_type c.args.before) c.args.since (lent_type c.args.local_time_type)
-              c.args.last c.in-Some.after.now u (ap lent_type c.in-Some.is) at
+              none_late c.args.reading (borrowed_type c.args.before) c.args.since (borrowed_type c.args.local_time_type)
+              c.args.last c.in-Some.after.now u (ap borrowed_type c.in-Some.is) at
               (omega (arith, ints, w.if-since-unix_time.true, since_is, unix_time_is))
               (omega (
                 arith,
@@ -60,8 +61,9 @@ returns-in_default-before-2-clause-ok g c =
                 unix_time_is,
               ))
           | else-since-unix_time-via-else-since-unix_time w ↦
-              none_first c.args.reading (lent_type c.args.before) c.args.since (lent_type c.args.local_time_type)
-              c.args.last c.in-Some.after.now u (ap lent_type c.in_default-before.is) (ap lent_type c.in-Some.is)
+              none_first c.args.reading (borrowed_type c.args.before) c.args.since
+              (borrowed_type c.args.local_time_type) c.args.last c.in-Some.after.now u
+              (ap borrowed_type c.in_default-before.is) (ap borrowed_type c.in-Some.is)
               at (omega (arith, ints, w.if-since-unix_time.false, since_is, unix_time_is))
         ],
       ),

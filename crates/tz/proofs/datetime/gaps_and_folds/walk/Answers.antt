@@ -1,5 +1,5 @@
 -- From one span to the next, up to the end of the window.
-use Rattle.tz.proofs.Common.{arith, refl, ◌≡◌, ◌∙◌, ints, inr, inl, [], to_z-of_z, rules, ◌+◌, pos, w64, IsClock, ◌≤◌, ◌++◌, ◌-ℤ◌, ◌+ℤ◌, ◌<ℤ◌, ◌≤ℤ◌, None, err_from_is_err_and, zone_of_data, SFits, lent_type, IsInstant-from_bounds, instant_bounds, looks_of}
+use Rattle.tz.proofs.Common.{arith, refl, ◌≡◌, ◌∙◌, ints, inr, inl, [], to_z-of_z, rules, ◌+◌, pos, w64, IsClock, ◌≤◌, ◌++◌, ◌-ℤ◌, ◌+ℤ◌, ◌<ℤ◌, ◌≤ℤ◌, None, err_from_is_err_and, zone_of_data, SFits, borrowed_type, IsInstant-from_bounds, instant_bounds, looks_of}
 use Rattle.tz.proofs.EntryWalks.{few_entries, refused_there, room_less, span_holds, walked_on, walked_to_end, walked_to_first}
 use Rattle.tz.proofs.WalkLooks.{looks_at_first, looks_in_all, looks_on}
 use Rattle.tz.proofs.datetime.gaps_and_folds.walk.Goals as goal
@@ -89,8 +89,9 @@ returns-in_err-give-clause-err g c =
     let p = err_from_is_err_and c.from_residual.result c.from_residual.ensures.1 in
     rw (p.1, p.2) (
       refused.0,
-      refused_there (IsClock z) c.args.low c.args.high c.args.reading s.offsets (lent_type c.loop-since.before) since
-          so_far.found.0 so_far.found.2 (lent_type span.local_time_type) span.last holds some refused.0 refused.1,
+      refused_there (IsClock z) c.args.low c.args.high c.args.reading s.offsets (borrowed_type c.loop-since.before)
+          since so_far.found.0 so_far.found.2 (borrowed_type span.local_time_type) span.last holds some
+          refused.0 refused.1,
       refused.2,
     )
 
@@ -167,8 +168,8 @@ loop-since-preserved-then-since-span g c =
         so_far.found.0 ++ given.0,
         c.requires.takes.is_taker.more c.args.entries.now c.loop-since.entries c.give.new.entries so_far.found.0 given.0
             so_far.found.1 given.1,
-        walked_on (IsClock z) low high c.args.reading s.offsets (lent_type c.loop-since.before) since so_far.found.0
-            so_far.found.2 (lent_type span.local_time_type) last holds some given.0 given.2 (last +ℤ pos 1) refl,
+        walked_on (IsClock z) low high c.args.reading s.offsets (borrowed_type c.loop-since.before) since so_far.found.0
+            so_far.found.2 (borrowed_type span.local_time_type) last holds some given.0 given.2 (last +ℤ pos 1) refl,
       );
       looks = looks_on z s.sound low high s.reach first begun.0 c.in-Some.stage begun.1 since c.loop-since.stage stage
           inside
@@ -249,7 +250,7 @@ returns-clause-ok g c =
     let over : high <ℤ c.loop-since.since =
     omega (arith, ints, c.loop-since-test.false, c.loop-since.since-is, to_z-of_z w64 high c.ranges.high) in
     let es = so_far.found.0 in
-    let all = walked_to_end clock low high r s.offsets (lent_type c.loop-since.before) c.loop-since.since es
+    let all = walked_to_end clock low high r s.offsets (borrowed_type c.loop-since.before) c.loop-since.since es
     so_far.found.2 over in
     (es, so_far.found.1, all, few_entries clock low high r s.offsets es s.width all)
 

@@ -1,6 +1,6 @@
 -- The rule answers at the last transition with its type, or the fault is named.
 use Rattle.tz_zone.proofs.Common.{to_z-of_z, rules, w64, refl, sym, inr, inl, length, ◌<◌, ap, ◌-◌, slice_get_read, rule_seen, option_map, zone_with, err_from_is_err_and}
-use Rattle.tz_zone.specs.LentRules.{lent_rule}
+use Rattle.tz_zone.specs.BorrowedRules.{borrowed_rule}
 use Rattle.tz_zone.proofs.RuleChecks.{not_answers, answers_at, agrees_at, not_agrees, same_from_test, other_from_test}
 use Rattle.tz_zone.proofs.timezone.zone_checks.check_extra_rule.Goals as goal
 
@@ -8,7 +8,7 @@ pub returns-in_err-rule_type-clause-err : goal.returns-in_err-rule_type-clause-e
 returns-in_err-rule_type-clause-err c =
     let p = err_from_is_err_and c.from_residual.result c.from_residual.ensures.1 in
     let z = zone_with c.args.transitions.now c.args.local_time_types.now c.args.leap_seconds.now
-    (lent_rule c.args.extra_rule) in
+    (borrowed_rule c.args.extra_rule) in
     let time = c.unix_leap_time-last_time.ensures in
     let begun = rw (
       to_z-of_z w64 c.unix_leap_time-last_time.result (search rules),
@@ -40,7 +40,7 @@ bounds-local_time_types-local_time_type_index c =
 pub returns-then-not-is_same-clause-err : goal.returns-then-not-is_same-clause-err
 returns-then-not-is_same-clause-err c =
     let z = zone_with c.args.transitions.now c.args.local_time_types.now c.args.leap_seconds.now
-    (lent_rule c.args.extra_rule) in
+    (borrowed_rule c.args.extra_rule) in
     let last = c.in-Some-last.last.now in
     let is_last = sym c.in-Some-last.ensures.value in
     let answer = c.in_ok-rule_type.rule_type.now in
@@ -70,7 +70,7 @@ returns-then-not-is_same-clause-err c =
 pub returns-clause-agrees : goal.returns-clause-agrees
 returns-clause-agrees c =
     let z = zone_with c.args.transitions.now c.args.local_time_types.now c.args.leap_seconds.now
-    (lent_rule c.args.extra_rule) in
+    (borrowed_rule c.args.extra_rule) in
     let last = c.in-Some-last.last.now in
     let is_last = sym c.in-Some-last.ensures.value in
     let answer = c.in_ok-rule_type.rule_type.now in

@@ -7,4 +7,4 @@ returns-clause-outcome g c =
     let f : Fields = fields_of c.args.year c.args.month c.args.month_day c.args.hour c.args.minute c.args.second
     c.args.nanoseconds in
     let outcome = rw (c.new-fields.ensures, to_z-of_z w32 c.args.year c.ranges.year) at c.find_fields.ensures.outcome in
-    subst (λ (z : Zone). IsOutcome (λ e. e) ⊤ z f c.find_fields.result) c.plain.ensures outcome
+    subst (λ (z : Zone). IsOutcome (λ e. e) ⊤ z f c.find_fields.result) c.of.ensures outcome

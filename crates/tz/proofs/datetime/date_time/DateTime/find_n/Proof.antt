@@ -13,7 +13,7 @@ use Rattle.tz.proofs.SearchParameters.{params, stayed, spelled, spelled_tells, g
 use Rattle.tz.proofs.datetime.date_time.DateTime.listed.Met.{met}
 use Rattle.tz.proofs.datetime.date_time.DateTime.find_n.Statement.{statement}
 use Rattle.tz.proofs.datetime.date_time.DateTime.find_n.Code as code
-use Rattle.tz.proofs.LentSlots.{by_result, if_ok_at, if_err_at, ok_outcome, err_outcome, slice_ends, ends_in, ends_as, variant_typed, heard_first, told, ok_taken, err_taken, fact_and, fact_last, proved, ok_of, err_of, arm_body, TzError, fields_of, slot_row, RestsIfInvalid, reference_of, Refused, FoundDateTimeListRefMut, named, Val, of_list, SProp, id⊢, GName, fres, Env, Wp, at_return, after_seq, Lfts, tables, Array, lone, RattleType, valss, all_Typed, named_lft, types_at, heard, nothing, calls_at, Lasts, lasts, at_exit, alive, triple_of, framed, walk_of, ends_at, Post, any_q, ‵, raw, ◌⊛◌, some, later, at_ret, ◌$◌, ◌∵◌, !, qed, by, move, drop, use0, use1, split, fsplit, fjoin, fpick, pick, await, rewrite, group, frame, suffices, enter, of_opd, addr, from, fld, hop, stop, first, switches_on, exec, returns, no_more, and_then, lit, whole, sub, agg, live, vrt, in_variant, alloc_all, pass_all, free_all, look_at, look_in_at, get, get_in, get_tag, sets, sets_last, lands_as, env}
+use Rattle.tz.proofs.BorrowedSlots.{by_result, if_ok_at, if_err_at, ok_outcome, err_outcome, slice_ends, ends_in, ends_as, variant_typed, heard_first, told, ok_taken, err_taken, fact_and, fact_last, proved, ok_of, err_of, arm_body, TzError, fields_of, slot_row, RestsIfInvalid, reference_of, Refused, FoundDateTimeListRefMut, named, Val, of_list, SProp, id⊢, GName, fres, Env, Wp, at_return, after_seq, Lfts, tables, Array, lone, RattleType, valss, all_Typed, named_lft, types_at, heard, nothing, calls_at, Lasts, lasts, at_exit, alive, triple_of, framed, walk_of, ends_at, Post, any_q, ‵, raw, ◌⊛◌, some, later, at_ret, ◌$◌, ◌∵◌, !, qed, by, move, drop, use0, use1, split, fsplit, fjoin, fpick, pick, await, rewrite, group, frame, suffices, enter, of_opd, addr, from, fld, hop, stop, first, switches_on, exec, returns, no_more, and_then, lit, whole, sub, agg, live, vrt, in_variant, alloc_all, pass_all, free_all, look_at, look_in_at, get, get_in, get_tag, sets, sets_last, lands_as, env}
 
 abbrev Found : Type 0
 Found = FoundDateTimeListRefMut

@@ -7,5 +7,5 @@ pub returns-in-Err-clause-outcome : goal.returns-in-Err-clause-outcome
 returns-in-Err-clause-outcome c =
     let outcome = rw c.fields.ensures.value at c.in-Err.ensures.outcome in
     let refused : Result FoundDateTimeListRefMut TzError = Err c.in-Err.refused.fault in
-    subst (λ (z : Zone). IsOutcome (λ e. e) ⊥ z c.args.local refused) c.plain.ensures
+    subst (λ (z : Zone). IsOutcome (λ e. e) ⊥ z c.args.local refused) c.of.ensures
     (record { valid = tt; made = tt; promised = outcome.promised; err = outcome.err })

@@ -9,7 +9,7 @@ returns c =
     let n = c.args.nanoseconds in
     let shown = rw (to_z-of_z w64 u c.ranges.unix_time) at c.from_timespec.ensures in
     record {
-      ok = subst (λ (z : Zone). IfOk result (ShowsByClock z u n)) c.plain.ensures shown.ok;
+      ok = subst (λ (z : Zone). IfOk result (ShowsByClock z u n)) c.of.ensures shown.ok;
       reads = shown.reads;
-      err = subst (λ (z : Zone). IfErr result (IsClockFault z u n)) c.plain.ensures shown.err;
+      err = subst (λ (z : Zone). IfErr result (IsClockFault z u n)) c.of.ensures shown.err;
     }

@@ -15,7 +15,7 @@ returns-then-has g c =
     let u = r -ℤ t.ut_offset in
     let low = c.window_of-low.result.0 in
     let high = c.window_of-low.result.1 in
-    let window = subst (λ (x : Zone). IsSearchable x r low high) c.plain.ensures
+    let window = subst (λ (x : Zone). IsSearchable x r low high) c.of.ensures
     (rw (to_z-of_z w64 r fits) at c.window_of-low.ensures.searchable) in
     let within = rw (to_z-of_z w64 low (search rules), to_z-of_z w64 high (search rules)) at (c.if-has.ensures refl) in
     let all : AreEntries (IsClock z) r (Shown u t ∷ []) =
@@ -37,7 +37,7 @@ returns g c =
     let low_is = to_z-of_z w64 low (search rules) in
     let high_is = to_z-of_z w64 high (search rules) in
     let kept = c.type_in_window.ensures.kept in
-    let here = subst (λ (x : Zone). IsSearchable x r low high) c.plain.ensures
+    let here = subst (λ (x : Zone). IsSearchable x r low high) c.of.ensures
     (rw r_is at c.window_of-low.ensures.searchable) in
     let window = subst (λ zone. IsSearchable (zone_of zone) r low high) (sym kept.zone_is) here in
     let z = zone_of c.type_in_window.new.self.zone in

@@ -8,5 +8,5 @@ returns-in-One-clause-some g c =
     let low = c.args.low in
     let high = c.args.high in
     let t = c.in-One.local_time_type in
-    subst (λ (z : Zone). AreTypesIn (IsClock z) low high (One t)) c.plain.ensures
+    subst (λ (z : Zone). AreTypesIn (IsClock z) low high (One t)) c.of.ensures
     (rw (to_z-of_z w64 low c.ranges.low, to_z-of_z w64 high c.ranges.high) at c.in-One.ensures.types)

@@ -5,12 +5,12 @@ use Rattle.tz_zone.proofs.timezone.zone.TimeZone.new.Goals as goal
 pub invariant_of-result-clause-sound : goal.invariant_of-result-clause-sound
 invariant_of-result-clause-sound g c =
     rw (← c.deref.ensures.value, ← c.deref-2.ensures.value, ← c.deref-3.ensures.value)
-    (rw c.lent.ensures at c.in_ok-check_parts.ensures.ok).table
+    (rw c.rule_ref.ensures at c.in_ok-check_parts.ensures.ok).table
 
 pub invariant_of-result-clause-valid : goal.invariant_of-result-clause-valid
 invariant_of-result-clause-valid g c =
     rw (← c.deref.ensures.value, ← c.deref-2.ensures.value, ← c.deref-3.ensures.value)
-    (∣ rw c.lent.ensures at c.in_ok-check_parts.ensures.ok ∣₁)
+    (∣ rw c.rule_ref.ensures at c.in_ok-check_parts.ensures.ok ∣₁)
 
 pub invariant_of-result-clause-offsets : goal.invariant_of-result-clause-offsets
 invariant_of-result-clause-offsets g c =

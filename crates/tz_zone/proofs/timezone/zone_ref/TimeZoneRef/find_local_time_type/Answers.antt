@@ -1,4 +1,4 @@
--- The plain data answers.
+-- The zone's data answers.
 use Rattle.tz_zone.proofs.Common.{to_z-of_z, w64}
 use Rattle.tz_zone.proofs.timezone.zone_ref.TimeZoneRef.find_local_time_type.Goals as goal
 

@@ -1,4 +1,4 @@
--- Steps of the proofs by hand of `find_n` and `find_n_counted`: what a lent slice ends as, and the two cases of a
+-- Steps of the proofs by hand of `find_n` and `find_n_counted`: what a borrowed slice ends as, and the two cases of a
 -- `Result`. The words of the logic that both take pass through here.
 use Rattle.tz.proofs.Common.{refl, ◌≡◌, subst, ◌∙◌, sym, [], ap, ℕ, ◌∷◌, ◌<◌, List, Fields, Zone, ◌++◌, ◌^◌, true, IsOutcome, Err, Result, Ok, IfErr, IfOk, Logic, OnOk, T, Ura, MutSlice, sem}
 use Rattle.std.proofs.Common.{◌&&◌}
@@ -6,7 +6,7 @@ pub use Rattle.std.proofs.ResultValues.{and_tt, ok_of, err_of}
 pub use Rattle.std.proofs.VecSteps.Shapes.{arm_body}
 pub use Rattle.std.proofs.raw_atomic.Walks.{proved}
 pub use Rattle.tz_base.specs.Fields.{fields_of}
-pub use Rattle.tz.specs.LentSlots.{slot_row, RestsIfInvalid}
+pub use Rattle.tz.specs.BorrowedSlots.{slot_row, RestsIfInvalid}
 pub use Rattle.tz.specs.Lists.{reference_of}
 pub use Rattle.tz.specs.declared.datetime.find.Refused.{Refused}
 pub use Rattle.tz.specs.declared.datetime.found.FoundDateTimeListRefMut.{FoundDateTimeListRefMut}
@@ -142,20 +142,25 @@ module _ {M : Type 1} {𝓤 : Ura M} {𝓛 : Logic 𝓤} {K : Type 0} {Γ : List
       (λ is. rewrite t 0 (λ (us : List Val). ‵ (R.own_val x us)) (tells x vs is) refl $
       k (tells x vs is) (subst (Is R x) (tells x vs is) is))
 
-  -- a result is taken apart: its value is one machine value
-  module _ (R R' : RattleType) where
-    pub ok_taken : K → (val : R.Denot → Val) → Tells R (Is R) (λ y. val y ∷ []) → (x : R.Denot) (v : Val)
+  -- a result is taken apart, whose case is known: its value is one machine value
+  module _ (R R' : RattleType) {r : Result R.Denot R'.Denot} where
+    pub ok_taken : K → (val : R.Denot → Val) → Tells R (Is R) (λ y. val y ∷ []) → (x : R.Denot) → r ≡ Ok x → (v : Val)
         → (v ≡ live 0 (of_list (val x ∷ [])) → Is R x (val x ∷ []) → Seq K 𝓛 (‵ (R.own_val x (val x ∷ [])) ∷ Γ) G)
-        → Seq K 𝓛 (‵ ((result.the_row R R').own_val (Ok x) (v ∷ [])) ∷ Γ) G
-    ok_taken t val tells x v k = fpick t (λ us. fsplit t $ feq_l t
+        → Seq K 𝓛 (‵ ((result.the_row R R').own_val r (v ∷ [])) ∷ Γ) G
+    ok_taken t val tells x e v k = rewrite t 0
+        (λ (z : Result R.Denot R'.Denot). ‵ ((result.the_row R R').own_val z (v ∷ []))) e refl $
+        fpick t (λ us. fsplit t $ feq_l t
         (λ e. fpick t (λ vss. fsplit t $ feq_l t (λ e'. fsplit t $ move t (1 ∷ []) $ drop t $
         told t R val tells x vss.0 (λ is owned. k (ap only e ∙ ap (λ (ws : List Val). live 0 (of_list ws))
         (e' ∙ ap (λ (ws : List Val). ws ++ []) is)) owned)))))
 
-    pub err_taken : K → (val : R'.Denot → Val) → Tells R' (Is R') (λ y. val y ∷ []) → (x : R'.Denot) (v : Val)
+    pub err_taken : K → (val : R'.Denot → Val) → Tells R' (Is R') (λ y. val y ∷ []) → (x : R'.Denot) → r ≡ Err x
+        → (v : Val)
         → (v ≡ live 1 (of_list (val x ∷ [])) → Is R' x (val x ∷ []) → Seq K 𝓛 (‵ (R'.own_val x (val x ∷ [])) ∷ Γ) G)
-        → Seq K 𝓛 (‵ ((result.the_row R R').own_val (Err x) (v ∷ [])) ∷ Γ) G
-    err_taken t val tells x v k = fpick t (λ us. fsplit t $ feq_l t
+        → Seq K 𝓛 (‵ ((result.the_row R R').own_val r (v ∷ [])) ∷ Γ) G
+    err_taken t val tells x e v k = rewrite t 0
+        (λ (z : Result R.Denot R'.Denot). ‵ ((result.the_row R R').own_val z (v ∷ []))) e refl $
+        fpick t (λ us. fsplit t $ feq_l t
         (λ e. fpick t (λ vss. fsplit t $ feq_l t (λ e'. fsplit t $ move t (1 ∷ []) $ drop t $
         told t R' val tells x vss.0 (λ is owned. k (ap only e ∙ ap (λ (ws : List Val). live 1 (of_list ws))
         (e' ∙ ap (λ (ws : List Val). ws ++ []) is)) owned)))))

@@ -1,7 +1,7 @@
 -- The parts of a rule's data make that rule, since it has passed all checks.
 use Rattle.tz_c.proofs.Common.{SFits, rules, to_z-of_z, w32}
 use Rattle.tz_c.proofs.SoundRules.{no_rule_fault}
-use Rattle.tz_c.proofs.rule_data.rule_of_plain.Goals as goal
+use Rattle.tz_c.proofs.rule_data.alternate_time_of.Goals as goal
 
 pub unreachable-requires : goal.unreachable-requires
 unreachable-requires c =
@@ -19,4 +19,4 @@ unreachable-requires c =
       c.dst_end.ensures,
       c.dst_end_time.ensures,
     ) at c.in-Err.ensures.err in
-    no_rule_fault c.args.plain.now c.in-Err.field-0 c.parts_are_sound.ensures.rule fault
+    no_rule_fault c.args.rule.now c.in-Err.field-0 c.parts_are_sound.ensures.rule fault

@@ -1,4 +1,4 @@
--- What a buffer of slots that a search was lent ends as.
+-- What a buffer of slots that a search borrowed ends as.
 use Rattle.std.specs.Borrow.{RestsIfErr, MutBor, Fml, GName, Array, RattleType}
 use Rattle.std.specs.Prelude.{◌≡◌, ◌⊎◌, Result}
 use Rattle.std.specs.contracts.option.Option as option

@@ -1,6 +1,6 @@
--- The rule that is lent is that of the lists.
+-- The borrowed rule is that of the lists.
 use Rattle.tz_c.proofs.Common.{rules, SFits, to_z-of_z, w32}
-use Rattle.tz_c.proofs.zone_data.TzZone.lent.Goals as goal
+use Rattle.tz_c.proofs.zone_data.TzZone.as_zone_data.Goals as goal
 
 pub from_valid_parts-requires-clause-offsets : goal.from_valid_parts-requires-clause-offsets
 from_valid_parts-requires-clause-offsets c =
