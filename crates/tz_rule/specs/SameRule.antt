@@ -13,9 +13,9 @@ use Rattle.tz_rule.specs.declared.timezone.transition_rule.TransitionRule.TheVar
 -- the six parts
 abbrev pub same_alternate : AlternateTime → AlternateTime → Bool
 same_alternate a b =
-    same_type a.std b.std && (same_type a.dst b.dst
-    && (same_day a.dst_start b.dst_start && (int_eq a.dst_start_time b.dst_start_time
-    && (same_day a.dst_end b.dst_end && int_eq a.dst_end_time b.dst_end_time))))
+    same_type a.std b.std && same_type a.dst b.dst
+    && same_day a.dst_start b.dst_start && int_eq a.dst_start_time b.dst_start_time
+    && same_day a.dst_end b.dst_end && int_eq a.dst_end_time b.dst_end_time
 
 abbrev pub same_rule : TransitionRule → TransitionRule → Bool
 same_rule (Fixed a) (Fixed b) = same_type a b
@@ -26,26 +26,22 @@ same_rule (Two a) (Two b) = same_alternate a b
 pub Decides-same_alternate : (a b : AlternateTime) → Decides (same_alternate a b) (a ≡ b)
 Decides-same_alternate a b =
     Decides-like (same_alternate a b)
-    (λ h. same_parts h.0 h.1.0 h.1.1.0 h.1.1.1.0 h.1.1.1.1.0 h.1.1.1.1.1)
+    (λ h. same_parts h.0.0.0.0.0 h.0.0.0.0.1 h.0.0.0.1 h.0.0.1 h.0.1 h.1)
     (λ e. (
-      ap (λ r. r.std) e,
       (
-        ap (λ r. r.dst) e,
         (
-          ap (λ r. r.dst_start) e,
-          (
-            ap (λ r. r.dst_start_time) e,
-            (ap (λ r. r.dst_end) e, ap (λ r. r.dst_end_time) e),
-          ),
+          ((ap (λ r. r.std) e, ap (λ r. r.dst) e), ap (λ r. r.dst_start) e),
+          ap (λ r. r.dst_start_time) e,
         ),
+        ap (λ r. r.dst_end) e,
       ),
+      ap (λ r. r.dst_end_time) e,
     ))
-    (Decides-and _ _ (Decides-same_type a.std b.std)
-    (Decides-and _ _ (Decides-same_type a.dst b.dst)
-    (Decides-and _ _ (Decides-same_day a.dst_start b.dst_start)
-    (Decides-and _ _ (Decides-int_eq a.dst_start_time b.dst_start_time)
-    (Decides-and _ _ (Decides-same_day a.dst_end b.dst_end)
-    (Decides-int_eq a.dst_end_time b.dst_end_time))))))
+    (Decides-and _ _ (Decides-and _ _ (Decides-and _ _ (Decides-and _ _ (Decides-and _ _
+    (Decides-same_type a.std b.std) (Decides-same_type a.dst b.dst))
+    (Decides-same_day a.dst_start b.dst_start))
+    (Decides-int_eq a.dst_start_time b.dst_start_time))
+    (Decides-same_day a.dst_end b.dst_end)) (Decides-int_eq a.dst_end_time b.dst_end_time))
   where
     same_parts : a.std ≡ b.std → a.dst ≡ b.dst → a.dst_start ≡ b.dst_start
         → a.dst_start_time ≡ b.dst_start_time → a.dst_end ≡ b.dst_end

@@ -286,11 +286,11 @@ impl PartialEq for AlternateTime {
     fn eq(&self, other: &AlternateTime) -> bool {
         let (a, b) = (&self.rule, &other.rule);
         a.std() == b.std()
-            && (a.dst() == b.dst()
-                && (self.dst_start == other.dst_start
-                    && (a.dst_start_time() == b.dst_start_time()
-                        && (self.dst_end == other.dst_end
-                            && a.dst_end_time() == b.dst_end_time()))))
+            && a.dst() == b.dst()
+            && self.dst_start == other.dst_start
+            && a.dst_start_time() == b.dst_start_time()
+            && self.dst_end == other.dst_end
+            && a.dst_end_time() == b.dst_end_time()
     }
 }
 
