@@ -326,8 +326,8 @@ pub fn read_texts_have_a_printed_form()
         → IsDateTimeText (printed_text p.local offset) p }
 {}
 
-/// As a [`crate::UtcDateTime`] a text has one result: one date time, or one error. Where it has a
-/// date time, [`crate::ParsedDateTime::parse`] reads the same local time, at offset 0.
+/// Read as a [`crate::UtcDateTime`], a text has one result: a date time or an error. If it has a
+/// date time, [`crate::ParsedDateTime::parse`] reads the same local time from it, at offset 0.
 pub fn utc_texts_have_one_result()
     ensures read { (text : List ℕ) (f g : Fields) → IsUtcText text f → IsUtcText text g → f ≡ g }
     ensures refused { (text : List ℕ) (e e' : ParseDateTimeError) → IsUtcTextFault text e

@@ -99,9 +99,9 @@ impl fmt::Display for DateTimePart {
 #[derive(Clone, Copy, Debug, PartialEq, Eq, Error)]
 #[error("expected {expected} at byte {position}")]
 pub struct ParseDateTimeError {
-    /// The part.
+    /// The part that the text should have there.
     pub expected: DateTimePart,
-    /// How many bytes stand before its position.
+    /// How many bytes of the text come before the place where it is missing.
     pub position: usize,
 }
 

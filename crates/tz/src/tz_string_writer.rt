@@ -162,8 +162,8 @@ fn push_day(buffer: &mut TextBuffer, day: &RuleDay)
     }
 }
 
-/// Appends when one of the two times begins: a comma, the day, and after a slash the time of day,
-/// unless it is two o'clock.
+/// Appends a day on which daylight saving time starts or ends: a comma, the day, and after a slash
+/// the time of day, unless it is two o'clock.
 fn push_switch(buffer: &mut TextBuffer, day: &RuleDay, time: i32)
     requires { length buffer.old + 31 ≤ 128 }
     ensures text { buffer.new ≡ buffer.old ++ comma ∷ turn_text day.now time }
@@ -217,7 +217,8 @@ fn is_standard(local_time_type: &LocalTimeType) -> bool
         && is_short_offset(local_time_type.ut_offset())
 }
 
-/// Whether the type can follow standard time with this offset.
+/// Whether a TZ string can have the type as daylight saving time after standard time with the
+/// offset `std`.
 fn is_daylight(std: i32, local_time_type: &LocalTimeType) -> bool
     requires { IsShortOffset std }
     ensures { MatchBool result

@@ -24,8 +24,7 @@ use tz_base::error::TzError;
 use tz_rule::timezone::LocalTimeType;
 use tz_zone::timezone::Segment;
 
-/// The segment of the zone's clock that holds an instant: the one before, if it holds the instant
-/// too.
+/// The segment of the zone's clock that holds an instant: `before`, if it holds the instant.
 #[inline(always)]
 fn segment_around<'a>(zone: &TzZone<'a>, before: Segment<'a>, unix_time: i64) -> Segment<'a>
     requires { IsTrueSegment (zone_of_data zone.now) (segment_of before) }
@@ -105,7 +104,7 @@ fn day_of(reading: i64) -> Day
     }
 }
 
-/// The day of a reading: the one before, if the reading is one of that.
+/// The day of a reading: `before`, if the reading is in that day.
 #[inline(always)]
 fn day_around(before: Day, reading: i64) -> Day
     requires day { IsDay before }

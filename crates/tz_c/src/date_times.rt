@@ -274,7 +274,7 @@ impl ParsedData {
         }
     }
 
-    /// The data of what is read.
+    /// The data of a text that was read.
     fn of(parsed: &ParsedDateTime) -> Self
         ensures value { parsed_of result ≡ parsed.now }
         ensures sound { IsParsedData result }

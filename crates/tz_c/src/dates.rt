@@ -23,7 +23,7 @@ pub struct DateData {
     month_day: u8,
 }
 
-/// The data of a date.
+/// The year, month and day of a date, laid out for C.
 fn written(date: Date) -> DateData
     ensures value { date_given result ≡ date }
     ensures date { IsDate date }

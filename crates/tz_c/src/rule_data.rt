@@ -63,7 +63,7 @@ fn alternate_time_of(rule: &AlternateData) -> AlternateTime
     }
 }
 
-/// The rule that is lent.
+/// A copy of a borrowed rule.
 pub(crate) fn rule_of(rule: RuleRef<'_>) -> TransitionRule
     ensures { result ≡ rule_seen rule.entry }
 {

@@ -17,7 +17,8 @@ use crate::zone_data::TzZone;
 use tz::datetime::Disambiguation;
 use tz::inner::{Fields, find_into, find_one};
 
-/// What is found of the fields from one of the entries on, and how many entries there are.
+/// Writes the entries that a search finds of the fields, without the first `skip`, to the slots as
+/// far as they go, and counts all.
 #[unsafe(no_mangle)]
 pub extern "C" fn tz_find_n(
     fields: &Fields,
@@ -44,7 +45,7 @@ pub extern "C" fn tz_find_n(
     }
 }
 
-/// The choice with a number.
+/// The choice that has the number in C.
 pub(crate) fn choice_of(choice: u8) -> Option<Disambiguation>
     ensures { result ≡ choice_of choice }
 {

@@ -114,15 +114,16 @@ pub extern "C" fn tz_name_check(name: &[u8]) -> u32
     }
 }
 
-/// What a setting asks for.
+/// How the text of a setting, such as that of `TZ`, names a zone, and which bytes of it are the
+/// name.
 #[repr(C)]
 #[derive(Clone, Copy)]
 pub struct SettingData {
     /// 0: the machine's local time, 1: a file, 2: a file or a TZ string.
     kind: u32,
-    /// Where its name begins.
+    /// The index of the name's first byte in the text.
     from: usize,
-    /// Where it ends.
+    /// The index after the name's last byte.
     until: usize,
 }
 
@@ -133,7 +134,7 @@ fn is_local_time(text: &[u8]) -> bool
     text == b"localtime".as_slice()
 }
 
-/// What a setting asks for.
+/// How the text of a setting names a zone.
 #[unsafe(no_mangle)]
 pub extern "C" fn tz_setting_read(text: &[u8], out: &mut SettingData) -> u32
     ensures answer { IsSettingAnswer text.now result out.new }

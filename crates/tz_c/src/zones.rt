@@ -408,7 +408,7 @@ fn index_in(types: &[LocalTimeType], local_time_type: &LocalTimeType) -> Option<
     None
 }
 
-/// The first index of one of a rule's types among them.
+/// The first index of a type among those of a rule, of which it is one.
 fn index_in_rule(rule: Option<RuleRef<'_>>, local_time_type: &LocalTimeType) -> usize
     requires { Stands (rule_types (borrowed_rule rule)) local_time_type.now }
     ensures index { IsFirstIndex (rule_types (borrowed_rule rule.entry)) local_time_type.now

@@ -215,7 +215,7 @@ impl Date {
         Date::from_day_number(day)
     }
 
-    /// How many days this date is after another one; negative if it is before it.
+    /// How many days this date is after `other`, negative if it is before.
     pub const fn days_since(self, other: Self) -> i64
         ensures { result ≡ number_of self -ℤ number_of other }
     {

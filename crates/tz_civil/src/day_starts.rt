@@ -71,8 +71,8 @@ const fn first_shown(offset: i32, at: i64, last: i64, first_reading: i64) -> Opt
     None
 }
 
-/// The start of a day, whose first reading is given, if the clock has one type from `low` up to the
-/// instant before another one, and a second type from there to `high`.
+/// The start of a day, whose first reading is given, if the clock changes its type once from `low`
+/// to `high`.
 fn first_around<'a>(
     first_reading: i64,
     low: i64,

@@ -489,7 +489,8 @@ fn shared(text: &[u8], other: &[u8]) -> usize {
     text.len()
 }
 
-/// That a text is not read of which these parts were guessed.
+/// The error of a text that the pattern does not print: how many bytes it shares with what the
+/// pattern prints of the date time that is nearest to `values`.
 fn mismatch(pattern: &Pattern<'_>, values: &[i32; 13], text: &[u8]) -> ReadPatternError
     ensures { (position : ℕ) × (result ≡ Mismatch position) }
 {

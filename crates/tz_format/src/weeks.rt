@@ -1,4 +1,4 @@
-//! Weeks of ISO 8601.
+//! Numbers of weeks: those of ISO 8601, and those of a year from its first Sunday or Monday on.
 
 ghost use Rattle.std.specs.Prelude.{◌≡◌, ◌≤◌, pos, ◌+ℤ◌, ◌-ℤ◌, ◌≤ℤ◌};
 ghost use Rattle.tz_base.specs.Days.{year_length};
@@ -38,7 +38,8 @@ fn days_of_year_before(year: i32) -> u16
     }
 }
 
-/// The week of the year, of weeks that begin so many days before the date.
+/// The week of the year, from 0 to 53, if weeks begin on the week day that was `since_first` days
+/// before the date. The days before the year's first such day are in week 0.
 pub(crate) fn week_of_year(year_day: u16, since_first: u8) -> u8
     requires { (year_day ≤ 365) × (since_first ≤ 6) }
     ensures value { result ≡ week_of_year year_day since_first }

@@ -1,7 +1,6 @@
 //! For the crates above and their tests, and no part of the public surface: the clock of a zone
-//! over a view of its transitions, leap times, what is read of a zone, and its plain data, which no
+//! over a view of its transitions, leap times, what is read of a zone, and its data, which no
 //! public call of `TimeZoneRef` returns.
-
 
 pub use crate::clock::window_types::{WindowTypes, window_types};
 pub use crate::clock::{Span, Stage, clock_segment_at, first_stage, span_from};
@@ -12,5 +11,3 @@ pub use crate::parse::tz_string::{DEFAULT_HOUR, DEFAULT_SAVING, parse_posix_tz};
 pub use crate::table::TransitionView;
 pub use crate::timezone::files::{open_fault, read_to_end};
 pub use crate::timezone::zone_data::ZoneData;
-
-/// The zone's plain data.

@@ -8,3 +8,4 @@ mod leap;
 pub(crate) mod parse;
 mod table;
 pub mod timezone;
+

@@ -122,7 +122,7 @@ fn the_last_transition_agrees_with_the_rule(rt: HostRuntime) -> Result<(), Fail>
 }
 
 /// The types before a transition at 0 and from there on, of a zone that is gone when they are
-/// handed out.
+/// returned.
 fn types_around_zero<'a>(
     transitions: &'a [Transition],
     local_time_types: &'a [LocalTimeType],
@@ -135,7 +135,7 @@ fn types_around_zero<'a>(
     ))
 }
 
-/// A type is lent for as long as the zone's list lives, and not only for as long as the zone.
+/// A type is borrowed from the zone's list, so it can outlive the zone.
 #[test]
 fn types_outlive_the_zone(rt: HostRuntime) -> Result<(), Fail> {
     let later = LocalTimeType::with_ut_offset(3600)?;

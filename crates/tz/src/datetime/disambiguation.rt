@@ -452,8 +452,7 @@ fn lookup_instant(
     fields.reading() - i64::from(local_time_type.ut_offset())
 }
 
-/// What the zone's clock shows at a Unix time. It stands apart from the search, which seldom needs
-/// it.
+/// What the zone's clock shows at a Unix time. It is cold, as few searches need it.
 #[cold]
 fn shown_apart(unix_time: i64, nanoseconds: u32, zone: &ZoneData<'_>) -> Result<DateTime, TzError>
     ensures ok { IfOk result (ShowsByClock (zone_of_data zone.now) unix_time nanoseconds) }
@@ -462,7 +461,8 @@ fn shown_apart(unix_time: i64, nanoseconds: u32, zone: &ZoneData<'_>) -> Result<
     from_timespec(unix_time, nanoseconds, zone)
 }
 
-/// The one date time that valid fields with this reading mean, as [`DateTime::find_one`] answers.
+/// The one date time that valid fields mean by a choice, if there is one. `reading` is that of the
+/// fields.
 #[inline(always)]
 fn find_one_valid(
     fields: &Fields,
@@ -490,7 +490,7 @@ fn find_one_valid(
     }
 }
 
-/// The one date time that fields mean, as [`DateTime::find_one`] answers it.
+/// The one date time that fields mean by a choice, if there is one.
 #[inline(always)]
 pub fn find_one(
     fields: &Fields,

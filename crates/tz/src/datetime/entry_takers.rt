@@ -14,13 +14,13 @@ pub(crate) trait EntryTaker<'a> {
     ghost use Rattle.tz_base.specs.declared.error.TzError.{TzError as Fault};
     ghost use Rattle.tz.specs.Entries.{Entry, Shown, Jump};
 
-    /// The second has taken these entries after the first.
+    /// `gains before after es`: by taking the entries `es`, `before` becomes `after`.
     ghost gains: { Self → Self → List Entry → Type 0 };
 
-    /// Whether it takes entries of a reading.
+    /// `takes taker r`: the entries that it is given may be those of the reading `r`.
     ghost takes: { Self → ℤ → Type 0 };
 
-    /// Why an entry is refused.
+    /// `refuses fault e`: the entry `e` can be refused by `fault`.
     ghost refuses: { Fault → Entry → Type 0 };
 
     /// Takes an instant at which a clock shows the reading in a type.
@@ -50,10 +50,10 @@ pub(crate) trait DateTimeList {
     ghost use Rattle.std.specs.Prelude.{List, [], ◌∷◌, ◌++◌, OnOk, OnErr};
     ghost use Rattle.tz.specs.declared.datetime.found.FoundDateTimeKind.{FoundDateTimeKind};
 
-    /// The second list is the first with these at its end.
+    /// `gains list longer es`: `longer` is `list` with `es` at its end.
     ghost gains: { Self → Self → List FoundDateTimeKind → Type 0 };
 
-    /// Whether the list allocates.
+    /// Whether a growing list can run out of memory.
     ghost takes_memory: { Type 0 };
 
     /// Adds one at the end. If out of memory, it adds none.

@@ -7,7 +7,7 @@ use std::alloc::{AllocError, Allocator, Global};
 use std::fmt;
 use tz_base::error::TzError;
 
-/// A found date time.
+/// An entry of what a search finds: a date time with the fields, or a jump over them.
 #[derive(Clone, Copy, Debug, PartialEq, Eq)]
 pub enum FoundDateTimeKind {
     /// The clock shows the date time.

@@ -187,7 +187,7 @@ impl UtcDateTime {
         Ok(UtcDateTime::of_fields(fields))
     }
 
-    /// The date time with these fields, which have one.
+    /// The date time with fields that are known to have one.
     pub(crate) const fn of_fields(fields: Fields) -> Self
         requires { IsUtc fields }
         ensures { result ≡ fields }
@@ -198,7 +198,7 @@ impl UtcDateTime {
         }
     }
 
-    /// The date time of a Unix time and nanoseconds, which have one.
+    /// The date time of a Unix time and nanoseconds that are known to have one.
     const fn at(unix_time: i64, nanoseconds: u32) -> Self
         requires in_range { IsReading unix_time }
         requires part { nanoseconds < 1000000000 }

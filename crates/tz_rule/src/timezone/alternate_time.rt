@@ -249,8 +249,8 @@ impl AlternateTime {
         &self.dst_start
     }
 
-    /// When it starts on that day, in seconds from 00:00 of standard time, less than a week either
-    /// way.
+    /// When daylight saving time starts on its day, in seconds from 00:00 of standard time, less
+    /// than a week either way.
     pub const fn dst_start_time(&self) -> i32
         ensures { result ≡ self.now.dst_start_time }
     {
@@ -264,8 +264,8 @@ impl AlternateTime {
         &self.dst_end
     }
 
-    /// When it ends on that day, in seconds from 00:00 of daylight saving time, less than a week
-    /// either way.
+    /// When daylight saving time ends on its day, in seconds from 00:00 of daylight saving time,
+    /// less than a week either way.
     pub const fn dst_end_time(&self) -> i32
         ensures { result ≡ self.now.dst_end_time }
     {
@@ -442,7 +442,7 @@ impl AlternateData {
         &self.parts.dst_start
     }
 
-    /// When it starts on that day, in seconds from 00:00 of standard time.
+    /// When daylight saving time starts on its day, in seconds from 00:00 of standard time.
     pub const fn dst_start_time(&self) -> i32
         ensures { result ≡ self.now.dst_start_time }
     {
@@ -456,7 +456,7 @@ impl AlternateData {
         &self.parts.dst_end
     }
 
-    /// When it ends on that day, in seconds from 00:00 of daylight saving time.
+    /// When daylight saving time ends on its day, in seconds from 00:00 of daylight saving time.
     pub const fn dst_end_time(&self) -> i32
         ensures { result ≡ self.now.dst_end_time }
     {

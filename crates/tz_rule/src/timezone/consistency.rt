@@ -2,7 +2,8 @@
 //! distance in years. If not, a conflict shows it.
 //!
 //! Consistency is determined by the tables of both alone, without a year, and a conflict is looked
-//! for in the years from 1972 to 2000.
+//! for in the years from 1972 to 2000. A start and an end at one instant are in no order, so they
+//! make no rule inconsistent: the span between them is empty.
 
 ghost use Rattle.std.specs.Prelude.{◌≡◌, ◌<◌, ◌≤◌, ℤ, pos, ◌+ℤ◌, ◌≤ℤ◌, ◌<ℤ◌, IfSome, IfNone, MatchBool};
 ghost use Rattle.tz_rule.specs.Kinds.{first_kind as first_kind_of, second_kind as second_kind_of, first_days as first_days_of};
@@ -71,7 +72,7 @@ impl YearTable {
         self.entry(second_kind(pair)) + SECONDS_PER_DAY * days as i64
     }
 
-    /// Whether the instant comes before the other one in some year.
+    /// Whether the instant of some year comes before that of `other` in the same year.
     pub(super) const fn comes_first(&self, other: &YearTable) -> bool
         ensures { MatchBool result (ComesFirst self.now.0 other.now.0)
             (¬ ComesFirst self.now.0 other.now.0) }
@@ -86,7 +87,7 @@ impl YearTable {
         false
     }
 
-    /// Whether the instant of some year comes before the other one of the next year.
+    /// Whether the instant of some year comes before that of `other` in the next year.
     pub(super) const fn comes_before_next(&self, other: &YearTable) -> bool
         ensures { MatchBool result (ComesBeforeNext self.now.0 other.now.0)
             (¬ ComesBeforeNext self.now.0 other.now.0) }
@@ -101,7 +102,7 @@ impl YearTable {
         false
     }
 
-    /// Whether the instant of some year comes after the other one of the next year.
+    /// Whether the instant of some year comes after that of `other` in the next year.
     const fn comes_after_next(&self, other: &YearTable) -> bool
         ensures { MatchBool result (ComesAfterNext self.now.0 other.now.0)
             (¬ ComesAfterNext self.now.0 other.now.0) }
@@ -116,7 +117,8 @@ impl YearTable {
         false
     }
 
-    /// Whether the instant and the other one of the next year change their order.
+    /// Whether the instant of a year comes before that of `other` in the next year in some years,
+    /// and after it in others.
     const fn changes_across_years(&self, other: &YearTable) -> bool
         ensures { MatchBool result (ChangesAcrossYears self.now.0 other.now.0)
             (¬ ChangesAcrossYears self.now.0 other.now.0) }
@@ -140,7 +142,8 @@ impl YearTable {
         ends.changes_across_years(self)
     }
 
-    /// A year in which the instant comes before the other one of the year that is at the distance.
+    /// A year from 1972 to 2000 in which the instant comes before that of `other` in the year that
+    /// is `distance` years later.
     const fn year_before(&self, other: &YearTable, distance: i32) -> Option<i32>
         requires { IsNear distance }
         ensures some { IfSome result (λ y. instant_in self.now.0 y <ℤ instant_in other.now.0

@@ -66,7 +66,7 @@ impl Julian1WithoutLeap {
         self.0
     }
 
-    /// How many days after January 1st the day is, in a leap year or another one.
+    /// How many days after January 1st the day is, in a leap year or in a year of 365 days.
     #[tactic(auto, unfolding(crate::specs::YearDays::julian_year_day))]
     const fn year_day(&self, leap: bool) -> u16
         ensures value { result ≡ julian_year_day leap self.now }

@@ -70,7 +70,7 @@ impl Hash for TransitionRule {
     }
 }
 
-/// A rule that is lent: a fixed type, or the data of an alternate rule.
+/// A borrowed rule: a fixed type, or the data of an alternate rule.
 #[derive(Clone, Copy)]
 pub enum RuleRef<'a> {
     /// One type for all time.
@@ -80,7 +80,7 @@ pub enum RuleRef<'a> {
 }
 
 impl<'a> RuleRef<'a> {
-    /// Lends a rule.
+    /// A reference to a rule.
     pub const fn of(rule: &'a TransitionRule) -> RuleRef<'a>
         ensures { rule_seen result ≡ rule.now }
     {

@@ -83,7 +83,7 @@ const fn end_of_run(zone: &ZoneData<'_>, position: usize, local_time_type: &Loca
     end
 }
 
-/// The first instant from another one on that has a leap time, and the position at which it lies.
+/// The first instant from `unix_time` on that has a leap time, and the position at which it lies.
 #[inline(always)]
 fn first_position(zone: &ZoneData<'_>, unix_time: i64) -> Option<(i64, usize)>
     requires { 0 < length (zone_of_data zone.now).transitions }
@@ -149,9 +149,9 @@ fn following_from<'a>(
     Some((change, position))
 }
 
-/// The change at the transition after a position, and the position after it, if the one before the
-/// position takes effect at the instant. That one compare shows that the instant lies there, since
-/// times rise.
+/// The change at the transition with the index `position`, and the position after it, if the
+/// transition before takes effect at the instant: as times rise, this one comparison shows that the
+/// instant lies at `position`.
 pub fn change_after_last<'a>(
     zone: &ZoneData<'a>,
     unix_time: i64,
@@ -226,7 +226,7 @@ const fn start_of_run(
     start
 }
 
-/// The last instant before another one that has a leap time, and the position at which it lies.
+/// The last instant before `unix_time` that has a leap time, and the position at which it lies.
 #[inline(always)]
 fn last_position(zone: &ZoneData<'_>, unix_time: i64) -> Option<(i64, usize)>
     requires at_least_one { 0 < length (zone_of_data zone.now).transitions }
@@ -322,8 +322,9 @@ fn change_at_last<'a>(
     Some((change, position - 1))
 }
 
-/// The change at the transition before a position, and the position before it, if the one after the
-/// position takes effect at the instant. Then the instant a second earlier lies there.
+/// The change at the transition before `position`, and the position before it, if the transition
+/// with the index `position` takes effect at the instant: then the instant a second earlier lies at
+/// `position`.
 pub fn change_before_next<'a>(
     zone: &ZoneData<'a>,
     unix_time: i64,

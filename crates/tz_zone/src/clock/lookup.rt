@@ -58,8 +58,8 @@ pub(super) fn type_from_last<'a>(zone: &ZoneData<'a>, unix_time: i64) -> Option<
     after_table(zone, false, unix_time).local_time_type
 }
 
-/// The last transition before a position. If there is none, one at the least leap time, to the
-/// first type.
+/// The last transition before a position. Position 0 has none: there it is one at the least leap
+/// time, to the first type.
 pub(super) fn before(view: &mut TransitionView<'_>, position: usize) -> Transition
     requires { position ≤ length (list_of view.old) }
     ensures same { list_of view.new ≡ list_of view.old }

@@ -1,4 +1,10 @@
 //! Leap times of instants, and instants of leap times.
+//!
+//! An instant may have a leap time (`leap_time`), is known to have one (`existing_leap_time`), or
+//! is refused if it has none (`unix_time_to_unix_leap_time`). The way back is the effect: that of
+//! a leap time which is known to be reached (`effect_of_reached`), which may be
+//! (`effect_if_reached`), or which is refused if it is not (`effect`); `wide_effect` has more than
+//! 64 bits.
 
 ghost use Rattle.std.specs.Prelude.{◌≡◌, ◌<◌, ◌≤◌, ◌+◌, ◌+ℤ◌, ◌≤ℤ◌, ◌<ℤ◌, ◌-ℤ◌, ℕ, length, slice_get, ℤ, pos, negsuc, IfOk, IfErr, MatchBool, MatchOption, Some};
 ghost use Rattle.std.specs.Bool.{OnTrue};
@@ -42,7 +48,7 @@ pub(crate) fn has_begun(leap_seconds: &[LeapSecond], unix_time: i64) -> bool
     first_instant(leap_seconds) <= i128::from(unix_time)
 }
 
-/// The first instant from another one on that does not lie before a truncated start, if there is
+/// The first instant from `unix_time` on that does not lie before a truncated start, if there is
 /// one.
 pub(crate) fn first_begun(leap_seconds: &[LeapSecond], unix_time: i64) -> Option<i64>
     ensures { MatchOption result ((u : ℤ) → unix_time ≤ℤ u → u ≤ℤ pos 9223372036854775807

@@ -93,14 +93,14 @@ fn is_one_second_apart(correction: i32, next: i32) -> bool
     apart == 1 || apart == -1
 }
 
-/// Whether a leap time comes at least 28 days after another one, less a second.
+/// Whether `next` comes at least 28 days, less a second, after the leap time `time`.
 fn is_far_from(time: i64, next: i64) -> bool
     ensures { MatchBool result ((time +ℤ pos 2419199) ≤ℤ next) (¬ ((time +ℤ pos 2419199) ≤ℤ next)) }
 {
     i128::from(time) + i128::from(SECONDS_PER_28_DAYS) - 1 <= i128::from(next)
 }
 
-/// Whether a leap second may follow another one.
+/// Whether the leap second `next` may come after `leap_second`.
 fn may_follow(leap_second: &LeapSecond, next: &LeapSecond) -> bool
     ensures { MatchBool result (MayFollow leap_second.now next.now)
         (¬ MayFollow leap_second.now next.now) }

@@ -595,7 +595,7 @@ fn indicator_at(indicators: &[u8], index: u32) -> u8
     indicators.get(index as usize).copied().unwrap_or(0)
 }
 
-/// Whether a type may have these indicators.
+/// Whether a type may have these two indicators: UT only with standard time.
 fn is_pair(std_wall: u8, ut_local: u8) -> bool
     ensures { MatchBool result (Spec.IsIndicatorPair std_wall ut_local)
         (¬ Spec.IsIndicatorPair std_wall ut_local) }
@@ -717,7 +717,7 @@ fn read_footer(footer: &[u8], extended: bool) -> Result<Option<TransitionRule>, 
     }
 }
 
-/// The rule of a file that may have a footer.
+/// The rule of the footer's text. There is none in version 1, or if the text is empty.
 #[inline(always)]
 fn read_extra_rule(footer: Option<&[u8]>, extended: bool) -> Result<Option<TransitionRule>, TzError>
     ensures ok { IfOk result (Spec.IsExtraRule extended (option_copied footer.entry)) }

@@ -593,7 +593,7 @@ fn named_type(
     LocalTimeType::new(ut_offset, is_dst, Some(name))
 }
 
-/// What the string denotes.
+/// The rule that the whole string denotes.
 fn read_text(text: &[u8], extended: bool) -> Result<TransitionRule, TzError>
     ensures { MatchResult result (IsTzText extended text.now) (IsTzTextFault extended text.now) }
 {

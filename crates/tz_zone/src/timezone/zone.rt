@@ -1,4 +1,5 @@
-//! Time zones that own their parts.
+//! Time zones that own their parts. Files are read in `parse/tz_file.rt`, zones are opened by
+//! settings and names in `settings.rt`, and changes are in `changes.rt`.
 
 ghost use Rattle.tz_zone.specs.Offsets.{AreEndOffsets};
 ghost use Rattle.tz_zone.specs.Table.{zone_with};

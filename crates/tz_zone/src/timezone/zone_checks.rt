@@ -109,7 +109,8 @@ fn check_extra_rule(
     Ok(())
 }
 
-/// Checks the parts of a zone, in the order of their errors.
+/// Checks the parts of a zone, in the order of their errors. The transitions may be known to be
+/// sound.
 pub(crate) fn check_parts(
     transitions: &[Transition],
     local_time_types: &[LocalTimeType],
@@ -135,7 +136,7 @@ pub(crate) fn check_parts(
     check_extra_rule(transitions, local_time_types, leap_seconds, extra_rule)
 }
 
-/// The range of offsets from `least` to `greatest`, widened just enough to have another one.
+/// The range of offsets from `least` to `greatest`, widened just enough to hold `offset`.
 fn with_offset(least: i32, greatest: i32, offset: i32) -> (i32, i32)
     ensures least { result.0 ≤ℤ least }
     ensures greatest { greatest ≤ℤ result.1 }

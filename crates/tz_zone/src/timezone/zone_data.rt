@@ -38,7 +38,7 @@ pub struct ZoneData<'a> {
     ghost greatest_fits: { SFits w32 greatest_offset },
 }
 
-/// Lends a rule, if there is one.
+/// A reference to a rule, if there is one.
 pub(super) const fn rule_ref(extra_rule: &Option<TransitionRule>) -> Option<RuleRef<'_>>
     ensures { borrowed_rule result ≡ extra_rule.now }
 {
@@ -145,7 +145,7 @@ impl<'a> ZoneData<'a> {
         self.leap_seconds
     }
 
-    /// The rule from the last transition on, lent.
+    /// The rule from the last transition on.
     pub const fn rule(&self) -> Option<RuleRef<'a>>
         ensures { borrowed_rule result ≡ (zone_of_data self.now).extra_rule }
     {
@@ -159,7 +159,7 @@ impl<'a> ZoneData<'a> {
         (self.least_offset, self.greatest_offset)
     }
 
-    /// The clock's type at an instant, as `TimeZoneRef::find_local_time_type` answers it.
+    /// The clock's type at an instant.
     #[inline(always)]
     pub fn find_local_time_type(&self, unix_time: i64) -> Result<&'a LocalTimeType, TzError>
         ensures ok { IfOk result (λ t. IsClock (zone_of_data self.now) unix_time t.now) }
@@ -169,7 +169,7 @@ impl<'a> ZoneData<'a> {
         clock::find_local_time_type(&mut view, self, unix_time)
     }
 
-    /// The segment around an instant, as `TimeZoneRef::segment_at` answers it.
+    /// The segment around an instant: the type of the clock, and from when until when it has it.
     pub fn segment_at(&self, unix_time: i64) -> Segment<'a>
         ensures within { ((segment_of result).from ≤ℤ unix_time)
             × (unix_time ≤ℤ (segment_of result).last) }
@@ -181,7 +181,7 @@ impl<'a> ZoneData<'a> {
         clock::clock_segment_at(&mut view, self, unix_time)
     }
 
-    /// The first change after an instant, as `TimeZoneRef::following` answers it.
+    /// The first change of the clock after an instant.
     pub fn following(&self, unix_time: i64) -> Option<Change<'a>>
         ensures { MatchOption result (HasNoFollowing (zone_of_data self.now) unix_time)
             (λ c. IsFollowing (zone_of_data self.now) unix_time (change_of c)) }
@@ -190,7 +190,7 @@ impl<'a> ZoneData<'a> {
         Some(change)
     }
 
-    /// The last change before an instant, as `TimeZoneRef::preceding` answers it.
+    /// The last change of the clock before an instant.
     pub fn preceding(&self, unix_time: i64) -> Option<Change<'a>>
         ensures { MatchOption result (HasNoPreceding (zone_of_data self.now) unix_time)
             (λ c. IsPreceding (zone_of_data self.now) unix_time (change_of c)) }
