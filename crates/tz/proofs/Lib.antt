@@ -12,7 +12,7 @@ pub mod PromisedLists
 pub mod CivilFields
 pub mod NoneLost
 pub mod UniqueLists
-pub mod DigitPairs
+pub use Rattle.tz_base.proofs.DigitPairs
 pub mod LastDigits
 pub mod PrintedDigits
 pub mod TzStringTexts

@@ -13,7 +13,7 @@ use Rattle.tz_rule.specs.declared.timezone.transition_rule.TransitionRule.TheVar
 use Rattle.tz_rule.specs.declared.timezone.rule_day.RuleDay.{RuleDay}
 use Rattle.tz_rule.specs.declared.timezone.rule_day.RuleDay.TheVariants.{Julian1WithoutLeap, Julian0WithLeap, MonthWeekDay}
 use Rattle.tz_zone.specs.Bytes.{capital_j, capital_m, closing_bracket, colon, comma, dot, minus_sign, opening_bracket, slash}
-use Rattle.tz.specs.PrintedText.{two_digits, seconds_text}
+use Rattle.tz_base.specs.PrintedText.{two_digits, seconds_text}
 
 -- `:mm` or `:mm:ss`, unless both are zero, of the seconds of an hour
 unfoldable pub minutes_text : ℕ → List ℕ

@@ -85,8 +85,6 @@ pub mod datetime;
 pub mod inner;
 pub mod laws;
 pub(crate) mod parse;
-mod print;
-mod text_buffer;
 mod tz_string_writer;
 mod utc_text;
 

@@ -8,3 +8,5 @@ pub mod MarchDays
 pub mod CivilReadings
 pub mod DateOrder
 pub mod LastSeconds
+pub mod DigitPairs
+pub mod PrintedDigits

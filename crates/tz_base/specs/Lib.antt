@@ -1,3 +1,4 @@
 pub mod Cycles
 pub mod Days
 pub mod Fields
+pub mod PrintedText

@@ -1,6 +1,6 @@
 //! What the crates above share: the constants, the error types, the proleptic Gregorian calendar
-//! both ways, the fields of date times, instants as totals of nanoseconds, and the order of
-//! numbers.
+//! both ways, the fields of date times and how they are printed, text without an allocation,
+//! instants as totals of nanoseconds, and the order of numbers.
 #![tactic(auto)]
 
 pub mod calendar;
@@ -9,3 +9,5 @@ pub mod error;
 pub mod fields;
 pub mod laws;
 pub mod order;
+pub mod print;
+pub mod text_buffer;

@@ -8,7 +8,6 @@ ghost use Rattle.tz.specs.DateTimes.{IsPastTheEnd, IsUtc, IsUtcTotal, IsNearTota
 ghost use Rattle.tz.specs.DateTimes.{IsBackwards};
 
 use super::DateTime;
-use crate::text_buffer::TextBuffer;
 use std::fmt;
 use std::marker::Model;
 use std::ops::{Add, AddAssign, Sub, SubAssign};
@@ -16,6 +15,7 @@ use std::time::Duration;
 use tz_base::constants::NANOSECONDS_PER_SECOND;
 use tz_base::error::{DateTimeError, TzError};
 use tz_base::fields::{Fields, is_reading, timespec, total_nanoseconds};
+use tz_base::text_buffer::TextBuffer;
 use tz_zone::timezone::TimeZoneRef;
 
 /// A date time of UTC, in a year of 32 bits. (ISO 8601)

@@ -1,0 +1,6 @@
+-- The bytes are those of a text.
+use Rattle.std.proofs.lemmas.Str.{IsUtf8-had}
+use Rattle.tz_base.proofs.text_buffer.TextBuffer.as_bytes.Goals as goal
+
+pub returns-clause-utf8 : goal.returns-clause-utf8
+returns-clause-utf8 c = IsUtf8-had _ c.self.invariant.1
