@@ -77,8 +77,6 @@ pub use Rattle.tz.specs.PrintedBytes.{AreBetween, IsDigitByte}
 pub use Rattle.tz.specs.PrintedText.{last_digits, seconds_text}
 unfoldable pub use Rattle.tz.specs.PrintedText.{two_digits, duration_text, nine_digits, offset_text, printed_text, date_text, time_text, two_digits_or_more, middle_text}
 pub use Rattle.tz.specs.Reached.{AreOffsetsOf}
-pub use Rattle.tz.specs.TzStrings.{offset_of_text, turn_text, tz_text, AreNamed, IsDaylightText, IsShortOffset, IsStandardText, IsWritable, daylight_text, is_extended, name_and_offset_text}
-unfoldable pub use Rattle.tz.specs.TzStrings.{daylight_offset_text, plain_time_text, signed_time_text, is_extended_time, name_text, time_of_day_text, day_text, is_bare, minutes_text}
 pub use Rattle.tz.specs.Windows.{AtMostTakeEffectAround, AtMostTakeEffectIn, IsWindow, TakesEffectIn, first_looks, AreRising, looks_after}
 pub use Rattle.tz.specs.declared.datetime.disambiguation.Disambiguation.{Disambiguation}
 pub use Rattle.tz.specs.declared.datetime.disambiguation.Disambiguation.TheVariants.{Compatible, Earlier, Later, Reject}

@@ -14,11 +14,7 @@ pub mod NoneLost
 pub mod UniqueLists
 pub use Rattle.tz_base.proofs.DigitPairs
 pub mod LastDigits
-pub mod PrintedDigits
-pub mod TzStringTexts
-pub mod TzStringParts
-pub mod TzStringNames
-pub mod TzStringRules
+pub use Rattle.tz_base.proofs.PrintedDigits
 pub mod ComparisonsByParts
 pub mod FieldOrder
 pub mod TimespecTotals

@@ -1,6 +1,7 @@
 pub use Rattle.tz_base.specs.Days
 pub use Rattle.tz_base.specs.Fields
 pub use Rattle.tz_rule.specs.LocalTimeType
+pub use Rattle.tz_zone.specs.TzStrings
 pub mod DateTimes
 pub mod Found
 pub mod Slots
@@ -13,7 +14,6 @@ pub mod Windows
 pub mod FindFaults
 pub mod Outcomes
 pub mod PrintedText
-pub mod TzStrings
 pub mod GrammarSteps
 pub mod DateTimeGrammar
 pub mod PartTexts

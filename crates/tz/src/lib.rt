@@ -85,7 +85,6 @@ pub mod datetime;
 pub mod inner;
 pub mod laws;
 pub(crate) mod parse;
-mod tz_string_writer;
 mod utc_text;
 
 pub use crate::datetime::{DateTime, UtcDateTime};
@@ -95,6 +94,5 @@ pub use crate::timezone::{
     Change, ChangesAfter, ChangesBefore, LocalTimeType, Segment, TimeZone, TimeZoneRef,
     TimeZoneSettings,
 };
-pub use crate::tz_string_writer::TzString;
 pub use tz_base::{constants, error};
-pub use tz_zone::timezone;
+pub use tz_zone::{TzString, timezone};

@@ -42,3 +42,7 @@ pub mod ChangeSpans
 pub mod PositionRuns
 pub mod ClockStages
 pub mod RuleChanges
+pub mod TzStringTexts
+pub mod TzStringParts
+pub mod TzStringNames
+pub mod TzStringRules

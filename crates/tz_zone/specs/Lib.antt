@@ -27,6 +27,7 @@ pub mod TzFileFault
 pub mod TzParts
 pub mod TzText
 pub mod TzTextFault
+pub mod TzStrings
 pub mod Settings
 pub mod SettingsParts
 pub mod ZoneNames

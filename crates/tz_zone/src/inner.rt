@@ -7,7 +7,7 @@ pub use crate::clock::{Span, Stage, clock_segment_at, first_stage, span_from};
 pub use crate::leap::leap_time::{effect, unix_time_to_unix_leap_time};
 pub use crate::parse::after_byte;
 pub use crate::parse::tz_file::{FileSizes, file_sizes};
-pub use crate::parse::tz_string::{DEFAULT_HOUR, DEFAULT_SAVING, parse_posix_tz};
+pub use crate::parse::tz_string::parse_posix_tz;
 pub use crate::table::TransitionView;
 pub use crate::timezone::files::{open_fault, read_to_end};
 pub use crate::timezone::zone_data::ZoneData;

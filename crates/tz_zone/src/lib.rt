@@ -9,3 +9,4 @@ pub(crate) mod parse;
 mod table;
 pub mod timezone;
 
+pub use crate::parse::tz_string_writer::TzString;

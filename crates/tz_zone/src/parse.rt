@@ -5,6 +5,7 @@ ghost use Rattle.tz_zone.specs.TzText.{Begins};
 
 pub(crate) mod tz_file;
 pub(crate) mod tz_string;
+pub(crate) mod tz_string_writer;
 
 /// The bytes after a byte, if they begin with it.
 pub fn after_byte(text: &[u8], byte: u8) -> Option<&[u8]>

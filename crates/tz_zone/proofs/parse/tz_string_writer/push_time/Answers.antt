@@ -1,8 +1,8 @@
 -- By the sign of the time.
-use Rattle.tz.proofs.Common.{arith, refl, ints, to_z-of_z, w32, append_assoc}
-use Rattle.tz.proofs.TzStringTexts.{signed_time_text-negative, signed_time_text-plain}
-use Rattle.tz.proofs.tz_string_writer.push_time.Goals as goal
-use Rattle.tz.proofs.tz_string_writer.push_time.Goals.{then-seconds-lt0, else-seconds-lt0}
+use Rattle.tz_zone.proofs.Common.{arith, refl, ints, to_z-of_z, w32, append_assoc}
+use Rattle.tz_zone.proofs.TzStringTexts.{signed_time_text-negative, signed_time_text-plain}
+use Rattle.tz_zone.proofs.parse.tz_string_writer.push_time.Goals as goal
+use Rattle.tz_zone.proofs.parse.tz_string_writer.push_time.Goals.{then-seconds-lt0, else-seconds-lt0}
 
 pub returns-clause-text : goal.returns-clause-text
 returns-clause-text c =

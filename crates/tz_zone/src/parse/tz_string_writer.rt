@@ -7,14 +7,14 @@ ghost use Rattle.std.specs.List.{list_all};
 ghost use Rattle.tz_rule.specs.LocalTimeType.{IsDesignation};
 ghost use Rattle.tz_zone.specs.Bytes.{comma};
 ghost use Rattle.tz_zone.specs.TzText.{IsTzText};
-ghost use Rattle.tz.specs.TzStrings.{minutes_text, plain_time_text, signed_time_text, offset_of_text, is_bare, name_text, day_text, turn_text, name_and_offset_text, daylight_text, tz_text, IsShortOffset, IsStandardText, IsDaylightText, IsWritable, AreNamed, is_extended};
+ghost use Rattle.tz_zone.specs.TzStrings.{minutes_text, plain_time_text, signed_time_text, offset_of_text, is_bare, name_text, day_text, turn_text, name_and_offset_text, daylight_text, tz_text, IsShortOffset, IsStandardText, IsDaylightText, IsWritable, AreNamed, is_extended};
 
-use crate::text_buffer::TextBuffer;
+use crate::parse::tz_string::{DEFAULT_HOUR, DEFAULT_SAVING};
 use std::fmt;
 use std::marker::Model;
+use tz_base::text_buffer::TextBuffer;
 use tz_rule::laws::rule_parts_are_sound;
-use tz_zone::inner::{DEFAULT_HOUR, DEFAULT_SAVING};
-use tz_zone::timezone::{AlternateTime, LocalTimeType, RuleDay, TransitionRule};
+use tz_rule::timezone::{AlternateTime, LocalTimeType, RuleDay, TransitionRule};
 
 /// The TZ string of a rule, which is made without an allocation. (POSIX.1-2017, Base Definitions,
 /// 8.3)

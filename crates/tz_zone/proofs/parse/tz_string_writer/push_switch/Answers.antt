@@ -1,7 +1,7 @@
 -- A comma, the day, and the time after a slash, unless it is the default one.
-use Rattle.tz.proofs.Common.{arith, refl, ints, to_z-of_z, w32, append_assoc, append-nil}
-use Rattle.tz.proofs.TzStringTexts.{time_of_day_text-default, time_of_day_text-other}
-use Rattle.tz.proofs.tz_string_writer.push_switch.Goals as goal
+use Rattle.tz_zone.proofs.Common.{arith, refl, ints, to_z-of_z, w32, append_assoc, append-nil}
+use Rattle.tz_zone.proofs.TzStringTexts.{time_of_day_text-default, time_of_day_text-other}
+use Rattle.tz_zone.proofs.parse.tz_string_writer.push_switch.Goals as goal
 
 pub returns-then-time-ne-DEFAULT_TIME-clause-text : goal.returns-then-time-ne-DEFAULT_TIME-clause-text
 returns-then-time-ne-DEFAULT_TIME-clause-text c =

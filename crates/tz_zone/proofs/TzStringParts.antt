@@ -1,11 +1,11 @@
 -- The numbers, times, names and days of a TZ string are read back, whatever stands after them that none of them goes on
 -- with.
-use Rattle.tz.proofs.Common.{arith, refl, ◌≡◌, subst, ◌∙◌, ints, inr, sym, inl, [], ap, ℕ, ◌∷◌, ◌<◌, List, length, ◌+◌, pos, ℤ, ◌≤◌, ◌++◌, suc, ◌*◌, ◌<ℤ◌, ◌%◌, ◌^◌, append_assoc, ◌/◌, negsuc, digits_value, ◌⊎◌, ◌≢◌, cases_lt, true, two_digits, Bool, decimal, false, if◌then◌else◌, decimal_digit, eqb-true, Begins, IsTimeUpTo, is_ascii_alphabetic, plain_time_text, signed_time_text, ◌==◌, ◌||◌, IsNumber, IsNumeralModel, TimeText, and_parts, comma, decimal_is_IsNumeral, is_ascii_digit, list_all, minus_sign, numerals_by_value, seconds_of, seconds_text, ◌&&◌, IsHms, IsPart, IsRun, IsSignedTime, colon, digits_decimal, digits_value-decimal, is_in_range, leb-true, lt-leb, minutes_text, nat_le, plus_sign, take_while, take_while-cons, tells_all_ascii_digits}
+use Rattle.tz_zone.proofs.Common.{arith, refl, ◌≡◌, subst, ◌∙◌, ints, inr, sym, inl, [], ap, ℕ, ◌∷◌, ◌<◌, List, length, ◌+◌, pos, ℤ, ◌≤◌, ◌++◌, suc, ◌*◌, ◌<ℤ◌, ◌%◌, ◌^◌, append_assoc, ◌/◌, negsuc, digits_value, ◌⊎◌, ◌≢◌, cases_lt, true, two_digits, Bool, decimal, false, if◌then◌else◌, decimal_digit, eqb-true, Begins, IsTimeUpTo, is_ascii_alphabetic, plain_time_text, signed_time_text, ◌==◌, ◌||◌, IsNumber, IsNumeralModel, TimeText, and_parts, comma, decimal_is_IsNumeral, is_ascii_digit, list_all, minus_sign, numerals_by_value, seconds_of, seconds_text, ◌&&◌, IsHms, IsPart, IsRun, IsSignedTime, colon, digits_decimal, digits_value-decimal, is_in_range, leb-true, lt-leb, minutes_text, nat_le, plus_sign, take_while, take_while-cons, tells_all_ascii_digits}
 use Rattle.std.proofs.Common.{cond}
 use Rattle.std.specs.Prelude.{neg_ℤ}
 use Rattle.std.specs.Str.{all_ascii_digits}
 use Rattle.tz_zone.proofs.TextReadings.{no_digit}
-use Rattle.tz.proofs.PrintedDigits.{two_digits-below, decimal-two_digits}
+use Rattle.tz_base.proofs.PrintedDigits.{two_digits-below, decimal-two_digits}
 
 -- the text is over, or its first byte does not pass the test
 abbrev pub Stops : (ℕ → Bool) → List ℕ → Type 0

@@ -1,9 +1,9 @@
 -- The names, days and times of day of a TZ string are read back.
-use Rattle.tz.proofs.Common.{arith, refl, ◌≡◌, subst, ◌∙◌, ints, inr, sym, inl, [], ap, ℕ, ◌∷◌, ◌<◌, List, length, pos, ℤ, ◌≤◌, ◌++◌, append_assoc, negsuc, ◌≢◌, cases_lt, true, Bool, decimal, false, if◌then◌else◌, Begins, Decides-int_eq, IsTimeUpTo, false≢true, int_eq, is_ascii_alphabetic, plain_time_text, signed_time_text, ◌||◌, All-weaker, IsDesignation, IsNumber, IsRuleText, IsTimeOfRule, and_parts, is_ascii_digit, is_extended_time, list_all, name_text, slash, time_of_day_text, turn_text, IsDay, IsDayTime, IsDesignationByte, IsName, IsRuleInRange, IsRuleTime, SwitchText, closing_bracket, day_text, day_time_hours, dot, is_bare, is_in_brackets, list_all-from_AllPass, ltb-false, ltb-true, nat_lt, ne_eqb, not, opening_bracket}
+use Rattle.tz_zone.proofs.Common.{arith, refl, ◌≡◌, subst, ◌∙◌, ints, inr, sym, inl, [], ap, ℕ, ◌∷◌, ◌<◌, List, length, pos, ℤ, ◌≤◌, ◌++◌, append_assoc, negsuc, ◌≢◌, cases_lt, true, Bool, decimal, false, if◌then◌else◌, Begins, Decides-int_eq, IsTimeUpTo, false≢true, int_eq, is_ascii_alphabetic, plain_time_text, signed_time_text, ◌||◌, All-weaker, IsDesignation, IsNumber, IsRuleText, IsTimeOfRule, and_parts, is_ascii_digit, is_extended_time, list_all, name_text, slash, time_of_day_text, turn_text, IsDay, IsDayTime, IsDesignationByte, IsName, IsRuleInRange, IsRuleTime, SwitchText, closing_bracket, day_text, day_time_hours, dot, is_bare, is_in_brackets, list_all-from_AllPass, ltb-false, ltb-true, nat_lt, ne_eqb, not, opening_bracket}
 use Rattle.tz_rule.specs.RuleDays.{IsRuleDay}
 use Rattle.tz_rule.specs.declared.timezone.rule_day.RuleDay.{RuleDay}
 use Rattle.tz_rule.specs.declared.timezone.rule_day.RuleDay.TheVariants.{Julian1WithoutLeap, Julian0WithLeap, MonthWeekDay}
-use Rattle.tz.proofs.TzStringParts.{Stops, first_of, run_before, IsBehind, no_byte_behind, no_digit_behind, no_letter_byte, decimal_read, time_of, plain_time_read, signed_time_read, time_up_to}
+use Rattle.tz_zone.proofs.TzStringParts.{Stops, first_of, run_before, IsBehind, no_byte_behind, no_digit_behind, no_letter_byte, decimal_read, time_of, plain_time_read, signed_time_read, time_up_to}
 
 -- a name with no letter after it
 other_byte : (b : ℕ) → b ≢ closing_bracket → is_in_brackets b ≡ true

@@ -1,12 +1,13 @@
 -- The TZ string of a rule denotes it, and a rule that a TZ string denotes is one that has such a string.
-use Rattle.tz.proofs.Common.{arith, refl, ◌≡◌, subst, ◌∙◌, ints, inr, sym, inl, [], ap, ℕ, ◌∷◌, List, ◌+◌, pos, ℤ, Some, ◌≤◌, ◌++◌, ◌*◌, ◌+ℤ◌, append_assoc, None, Option, LocalTimeType, ◌⊎◌, ◌≢◌, true, Bool, append-nil, false, if◌then◌else◌, Fixed, TransitionRule, Decides-int_eq, IsTimeUpTo, daylight_offset_text, false≢true, int_eq, is_ascii_alphabetic, ◌||◌, AlternateTime, IsDesignation, IsRuleText, IsTimeOfRule, TimeText, comma, is_extended_time, name_text, offset_of_text, seconds_of, turn_text, tz_text, AlternateText, AreNamed, AreRuleDays, IsAlternateInRange, IsAlternateText, IsConsistentRule, IsDaylightOffset, IsDaylightText, IsNameAndOffset, IsShortOffset, IsSoundRule, IsStandardText, IsTzText, IsWritable, daylight_offset_of, daylight_text, designation_text, dst_type_of, is_extended, le-ltb, name_and_offset_text, offset_hours, rule_of, std_type_of, type_of, unwrap_or, ut_offset_of}
+use Rattle.tz_zone.proofs.Common.{arith, refl, ◌≡◌, subst, ◌∙◌, ints, inr, sym, inl, [], ap, ℕ, ◌∷◌, List, ◌+◌, pos, ℤ, Some, ◌≤◌, ◌++◌, ◌*◌, ◌+ℤ◌, append_assoc, None, Option, LocalTimeType, ◌⊎◌, ◌≢◌, true, Bool, append-nil, false, if◌then◌else◌, Fixed, TransitionRule, Decides-int_eq, IsTimeUpTo, daylight_offset_text, false≢true, int_eq, is_ascii_alphabetic, ◌||◌, AlternateTime, IsDesignation, IsRuleText, IsTimeOfRule, TimeText, comma, is_extended_time, name_text, offset_of_text, seconds_of, turn_text, tz_text, AlternateText, AreNamed, AreRuleDays, IsAlternateInRange, IsAlternateText, IsConsistentRule, IsDaylightOffset, IsDaylightText, IsNameAndOffset, IsShortOffset, IsSoundRule, IsStandardText, IsTzText, IsWritable, daylight_offset_of, daylight_text, designation_text, dst_type_of, le-ltb, name_and_offset_text, offset_hours, rule_of, std_type_of, type_of, unwrap_or, ut_offset_of}
+use Rattle.tz_zone.specs.TzStrings.{is_extended}
 use Rattle.std.specs.Prelude.{neg_ℤ}
 use Rattle.std.specs.Option.{IfSome}
 use Rattle.std.proofs.Math.IntN.{neg_ℤ-neg_ℤ}
 use Rattle.tz_rule.specs.declared.timezone.transition_rule.TransitionRule.TheVariants.{Alternate as Alternating}
 use Rattle.tz_zone.proofs.TextAnswers.{same_rule_of}
-use Rattle.tz.proofs.TzStringParts.{Stops, IsBehind, time_of, IsTimeBelow, signed_time_read, seconds_of_time, time_up_to}
-use Rattle.tz.proofs.TzStringNames.{name_read, name_behind, Allows, allows_first, allows_second, turn_of, turn_read, turn_range}
+use Rattle.tz_zone.proofs.TzStringParts.{Stops, IsBehind, time_of, IsTimeBelow, signed_time_read, seconds_of_time, time_up_to}
+use Rattle.tz_zone.proofs.TzStringNames.{name_read, name_behind, Allows, allows_first, allows_second, turn_of, turn_read, turn_range}
 
 -- an offset
 offset_below : (offset : ℤ) → IsShortOffset offset → IsTimeBelow 89999 (neg_ℤ offset)

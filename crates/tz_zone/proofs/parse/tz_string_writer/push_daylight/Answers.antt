@@ -1,8 +1,8 @@
 -- The parts in turn, without an offset that is the default one.
-use Rattle.tz.proofs.Common.{arith, refl, ◌≡◌, ints, sym, to_z-of_z, rules, ◌++◌, w32, append_assoc, append-nil, daylight_offset_text}
-use Rattle.tz.proofs.TzStringTexts.{daylight_offset_text-default, daylight_offset_text-other}
-use Rattle.tz.proofs.tz_string_writer.push_daylight.Goals as goal
-use Rattle.tz.proofs.tz_string_writer.push_daylight.Goals.{then-ut_offset, else-ut_offset}
+use Rattle.tz_zone.proofs.Common.{arith, refl, ◌≡◌, ints, sym, to_z-of_z, rules, ◌++◌, w32, append_assoc, append-nil, daylight_offset_text}
+use Rattle.tz_zone.proofs.TzStringTexts.{daylight_offset_text-default, daylight_offset_text-other}
+use Rattle.tz_zone.proofs.parse.tz_string_writer.push_daylight.Goals as goal
+use Rattle.tz_zone.proofs.parse.tz_string_writer.push_daylight.Goals.{then-ut_offset, else-ut_offset}
 
 pub returns-clause-text : goal.returns-clause-text
 returns-clause-text c =

@@ -1,7 +1,7 @@
 -- The text is read back, and a rule that a text denotes has one.
-use Rattle.tz.proofs.Common.{◌≡◌, rules, tz_text}
-use Rattle.tz.proofs.TzStringRules.{tz_text_read, writable_if_read, ordinary_if_read}
-use Rattle.tz.proofs.tz_string_writer.TzString.from_rule.Goals as goal
+use Rattle.tz_zone.proofs.Common.{◌≡◌, rules, tz_text}
+use Rattle.tz_zone.proofs.TzStringRules.{tz_text_read, writable_if_read, ordinary_if_read}
+use Rattle.tz_zone.proofs.parse.tz_string_writer.TzString.from_rule.Goals as goal
 
 pub returns-then-not-is_writable-clause-ordinary : goal.returns-then-not-is_writable-clause-ordinary
 returns-then-not-is_writable-clause-ordinary c text read = ordinary_if_read text c.args.rule.now read

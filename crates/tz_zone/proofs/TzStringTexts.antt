@@ -1,5 +1,5 @@
 -- What the parts of a TZ string are by their cases, and how long a number is.
-use Rattle.tz.proofs.Common.{arith, refl, ◌≡◌, ints, inr, inl, [], ap, ℕ, ◌∷◌, ◌<◌, length, pos, ℤ, ◌≤◌, ◌+ℤ◌, ◌<ℤ◌, ◌≤ℤ◌, negsuc, ◌≢◌, Bool, decimal, false, if◌then◌else◌, Decides-int_eq, daylight_offset_text, int_eq, length-decimal-le, plain_time_text, signed_time_text, minus_sign, offset_of_text, slash, time_of_day_text, unsigned_abs, cases_Bool}
+use Rattle.tz_zone.proofs.Common.{arith, refl, ◌≡◌, ints, inr, inl, [], ap, ℕ, ◌∷◌, ◌<◌, length, pos, ℤ, ◌≤◌, ◌+ℤ◌, ◌<ℤ◌, ◌≤ℤ◌, negsuc, ◌≢◌, Bool, decimal, false, if◌then◌else◌, Decides-int_eq, daylight_offset_text, int_eq, length-decimal-le, plain_time_text, signed_time_text, minus_sign, offset_of_text, slash, time_of_day_text, unsigned_abs, cases_Bool}
 
 pub three_digits : (n : ℕ) → n < 1000 → length (decimal n) ≤ 3
 three_digits n below = length-decimal-le 3 n (omega arith) (omega arith) (omega arith)
