@@ -1,7 +1,7 @@
 //! Local time types.
 
-ghost use Rattle.std.specs.Prelude.{◌≡◌, ℕ, ◌≤◌, ◌↔◌, OnOk, IfOk, IfErr, IsTrue};
-ghost use Rattle.tz_rule.specs.LocalTimeType.{IsFirstTypeFault, IsLocalTimeType, IsDesignationByte, plain_type, designation_text};
+ghost use Rattle.std.specs.Prelude.{◌≡◌, ℕ, ◌≤◌, ◌↔◌, OnOk, IfOk, IfErr, IfSome, IsTrue, IsAscii};
+ghost use Rattle.tz_rule.specs.LocalTimeType.{IsFirstTypeFault, IsLocalTimeType, IsDesignation, IsDesignationByte, plain_type, designation_text};
 
 use std::hash::{Hash, Hasher};
 use std::marker::Model;
@@ -106,7 +106,7 @@ impl Designation {
     ghost use Rattle.tz_rule.specs.KeptDesignation.{IsKept, name_of, kept, word_of};
     ghost use Rattle.tz_rule.specs.LocalTimeType.{IsDesignation, IsDesignationLength};
     ghost use Rattle.tz_base.specs.declared.error.LocalTimeTypeError.TheVariants as faults;
-    ghost use Rattle.std.specs.Prelude.{All, IfOk, IfErr, OnOk, ◌⊎◌, ◌≡◌};
+    ghost use Rattle.std.specs.Prelude.{All, IfOk, IfErr, OnOk, ◌⊎◌, ◌≡◌, IsAscii};
 
     /// No name.
     const fn none() -> Designation
@@ -153,12 +153,21 @@ impl Designation {
         u64::from_le_bytes([b0, b1, b2, b3, b4, b5, b6, self.len])
     }
 
+    /// The bytes of the name, none if there is no name.
+    fn as_bytes(&self) -> &[u8]
+        requires { IsKept self.now }
+        ensures name { result.now ≡ name_of self.now }
+        ensures ascii { IsAscii result.now }
+    {
+        self.bytes.split_at(self.len as usize).0
+    }
+
     /// The name, empty if there is none.
     fn as_str(&self) -> &str
         requires { IsKept self.now }
         ensures { result.now ≡ name_of self.now }
     {
-        unsafe { str::from_utf8_unchecked(self.bytes.split_at(self.len as usize).0) }
+        unsafe { str::from_utf8_unchecked(self.as_bytes()) }
     }
 }
 
@@ -285,4 +294,13 @@ impl LocalTimeType {
         }
         Some(self.time_zone_designation.as_str())
     }
+}
+
+/// The bytes of the type's name, none if it has no name.
+pub fn designation_bytes(local_time_type: &LocalTimeType) -> &[u8]
+    ensures text { result.now ≡ designation_text local_time_type.now }
+    ensures ascii { IsAscii result.now }
+    ensures name { IfSome local_time_type.now.designation IsDesignation }
+{
+    local_time_type.time_zone_designation.as_bytes()
 }

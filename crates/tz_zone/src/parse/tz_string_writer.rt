@@ -1,6 +1,6 @@
 //! Writes the TZ strings of rules.
 
-ghost use Rattle.std.specs.Prelude.{◌≡◌, ◌≢◌, ◌≤◌, ◌<◌, ◌+◌, ◌++◌, ◌∷◌, ℕ, pos, ◌+ℤ◌, Bool, false, List, length, IfSome, IfNone, MatchBool};
+ghost use Rattle.std.specs.Prelude.{◌≡◌, ◌≢◌, ◌≤◌, ◌<◌, ◌+◌, ◌++◌, ◌∷◌, ℕ, pos, ◌+ℤ◌, Bool, false, List, length, IfSome, IfNone, IsAscii, MatchBool};
 ghost use Rattle.std.specs.Char.{is_ascii_alphabetic};
 ghost use Rattle.std.specs.Fmt.{decimal};
 ghost use Rattle.std.specs.List.{list_all};
@@ -13,6 +13,7 @@ use crate::parse::tz_string::{DEFAULT_HOUR, DEFAULT_SAVING};
 use std::fmt;
 use std::marker::Model;
 use tz_base::text_buffer::TextBuffer;
+use tz_rule::inner::designation_bytes;
 use tz_rule::laws::rule_parts_are_sound;
 use tz_rule::timezone::{AlternateTime, LocalTimeType, RuleDay, TransitionRule};
 
@@ -115,25 +116,26 @@ fn are_letters(bytes: &[u8]) -> bool
 
 /// Whether a name needs no angle brackets.
 #[tactic(auto, unfolding(crate::specs::TzStrings::is_bare))]
-fn is_bare_name(name: &str) -> bool
+fn is_bare_name(name: &[u8]) -> bool
     ensures { result ≡ is_bare name.now }
 {
-    name.len() > 2 && are_letters(name.as_bytes())
+    name.len() > 2 && are_letters(name)
 }
 
 /// Appends a name, in angle brackets if it needs them.
 #[tactic(auto, unfolding(crate::specs::TzStrings::name_text))]
-fn push_name(buffer: &mut TextBuffer, name: &str)
+fn push_name(buffer: &mut TextBuffer, name: &[u8])
     requires short { length name.now ≤ 7 }
+    requires ascii { IsAscii name.now }
     requires room { length buffer.old + 9 ≤ 128 }
     ensures text { buffer.new ≡ buffer.old ++ name_text name.now }
     ensures len { length buffer.new ≤ length buffer.old + 9 }
 {
     if is_bare_name(name) {
-        buffer.push_str(name);
+        buffer.push_ascii(name);
     } else {
         buffer.push(b'<');
-        buffer.push_str(name);
+        buffer.push_ascii(name);
         buffer.push(b'>');
     }
 }
@@ -184,7 +186,7 @@ fn push_name_and_offset(buffer: &mut TextBuffer, local_time_type: &LocalTimeType
     ensures text { buffer.new ≡ buffer.old ++ name_and_offset_text local_time_type.now }
     ensures len { length buffer.new ≤ length buffer.old + 26 }
 {
-    push_name(buffer, local_time_type.time_zone_designation());
+    push_name(buffer, designation_bytes(local_time_type));
     push_offset(buffer, local_time_type.ut_offset());
 }
 
@@ -198,7 +200,7 @@ fn push_daylight(buffer: &mut TextBuffer, rule: &AlternateTime)
     ensures text { buffer.new ≡ buffer.old ++ daylight_text rule.now }
     ensures len { length buffer.new ≤ length buffer.old + 88 }
 {
-    push_name(buffer, rule.dst().time_zone_designation());
+    push_name(buffer, designation_bytes(rule.dst()));
     if rule.dst().ut_offset() != rule.std().ut_offset() + DEFAULT_SAVING {
         push_offset(buffer, rule.dst().ut_offset());
     }
@@ -213,7 +215,7 @@ fn is_standard(local_time_type: &LocalTimeType) -> bool
         (¬ IsStandardText local_time_type.now) }
 {
     !local_time_type.is_dst()
-        && !local_time_type.time_zone_designation().is_empty()
+        && !designation_bytes(local_time_type).is_empty()
         && is_short_offset(local_time_type.ut_offset())
 }
 
@@ -227,7 +229,7 @@ fn is_daylight(std: i32, local_time_type: &LocalTimeType) -> bool
         (¬ IsDaylightText std local_time_type.now) }
 {
     local_time_type.is_dst()
-        && !local_time_type.time_zone_designation().is_empty()
+        && !designation_bytes(local_time_type).is_empty()
         && (is_short_offset(local_time_type.ut_offset())
             || local_time_type.ut_offset() == std + DEFAULT_SAVING)
 }

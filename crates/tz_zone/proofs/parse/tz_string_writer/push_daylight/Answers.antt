@@ -38,7 +38,7 @@ returns-clause-text c =
       c.push_switch.ensures.text,
       offset,
       c.push_name.ensures.text,
-      c.time_zone_designation.ensures.text,
+      c.designation_bytes.ensures.text,
       to_z-of_z w32 c.dst_start_time.result (search rules),
       to_z-of_z w32 c.dst_end_time.result (search rules),
       c.dst.ensures,
