@@ -9,6 +9,7 @@ pub mod WideEffects
 pub mod Expiries
 pub mod OffsetBounds
 pub mod RisingTimes
+pub mod Chunks
 pub mod PowerSteps
 pub mod LeapAnswers
 pub mod TableChecks

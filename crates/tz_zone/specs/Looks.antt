@@ -1,6 +1,6 @@
 -- A view of transitions, and its count of looks: one more for each look. A count of 64 bits stays
 -- at its greatest.
-use Rattle.std.specs.Prelude.{ℕ, ◌+◌, ◌≤◌, List, Bool, true, false, nat_lt, if◌then◌else◌}
+use Rattle.std.specs.Prelude.{◌≡◌, ℕ, ◌+◌, ◌≤◌, List, length, take, drop, Bool, true, false, nat_lt, if◌then◌else◌}
 use Rattle.std.proofs.Common.{arith}
 use Rattle.tz_zone.specs.Table.{Transition}
 use Rattle.tz_zone.specs.declared.table.transition_view.TransitionView.{TransitionView}
@@ -30,3 +30,8 @@ pub one_look_more-one_more : (n : ℕ) → one_look_more n ≤ n + 1
 one_look_more-one_more n =
     elim (nat_lt n 18446744073709551615) as (λ t. (if t then n + 1 else n) ≤ n + 1)
     [ true ↦ omega arith | false ↦ omega arith ]
+
+-- so many transitions in a row, from an index on
+abbrev pub IsChunkAt : List Transition → ℕ → ℕ → List Transition → Type 0
+IsChunkAt transitions index n chunk =
+    (index + n ≤ length transitions) × (chunk ≡ take n (drop index transitions))

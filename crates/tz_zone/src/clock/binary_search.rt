@@ -1,7 +1,7 @@
 //! How many transitions are reached at an instant: a guess by the time, which two looks confirm, or
 //! a binary search.
 
-ghost use Rattle.std.specs.Prelude.{◌≡◌, ℕ, ◌+◌, ◌-◌, ◌^◌, ◌<◌, ◌≤◌, ◌⊎◌, length, IsTrue, IfSome};
+ghost use Rattle.std.specs.Prelude.{◌≡◌, ℕ, ◌+◌, ◌-◌, ◌^◌, ◌<◌, ◌≤◌, ◌⊎◌, length, IsTrue, IfSome, ◌≤ℤ◌, ◌<ℤ◌};
 ghost use Rattle.std.specs.Prelude.{IfNone, MatchOption};
 ghost use Rattle.tz_zone.specs.Clock.{AreReached, AreAhead, IsLast, IsPositionAt};
 ghost use Rattle.tz_zone.specs.ClockSegments.{IsReachedAt};
@@ -22,9 +22,6 @@ const BLOCK: usize = 128;
 /// Half a mean Gregorian year, in seconds: clocks with daylight saving time change twice a year.
 const HALF_YEAR: u64 = 15_778_476;
 
-/// The fewest transitions at which a position is guessed: fewer are halved as fast.
-const LEAST_GUESSED: usize = 9;
-
 /// The most transitions at which a position is guessed: more of them are hardly half a year apart.
 const MOST_GUESSED: usize = 1024;
 
@@ -36,6 +33,24 @@ const fn power_up_to(number: usize) -> usize
     ensures next { number < result + result }
 {
     1 << number.ilog2()
+}
+
+/// The later of two positions if a transition is reached at a leap time, or else the earlier one.
+#[inline(always)]
+const fn later_if_reached(
+    change: Transition,
+    position: usize,
+    later: usize,
+    unix_leap_time: i64,
+) -> usize
+    ensures { ((result ≡ later) × (change.unix_leap_time ≤ℤ unix_leap_time))
+        ⊎ ((result ≡ position) × (unix_leap_time <ℤ change.unix_leap_time)) }
+{
+    if change.unix_leap_time() <= unix_leap_time {
+        later
+    } else {
+        position
+    }
 }
 
 /// The later of two positions, if the transition before it is reached at a leap time, or else the
@@ -57,11 +72,7 @@ fn position_after_look(
     ensures kept { looks_of view.old ≤ looks_of view.new }
     ensures at_most { looks_of view.new ≤ looks_of view.old + 1 }
 {
-    if view.look(later - 1).unix_leap_time() <= unix_leap_time {
-        later
-    } else {
-        position
-    }
+    later_if_reached(view.look(later - 1), position, later, unix_leap_time)
 }
 
 /// Of twice `count` positions from `position` on, the first of the `count` among which the leap
@@ -109,8 +120,42 @@ fn halved(
     position
 }
 
-/// The position of a leap time among 128, by seven looks. Each distance is a constant, so a step
-/// takes five instructions and no branch.
+/// Of twice `count` places of a block from `place` on, the first of the `count` among which that of
+/// the leap time is, by the transition in the middle.
+fn half_of_block(
+    block: &[Transition; BLOCK],
+    place: usize,
+    count: usize,
+    unix_leap_time: i64,
+) -> usize
+    requires rising { IsRising block.now }
+    requires some { 0 < count }
+    requires among { IsAmongPositions block.now unix_leap_time place (count + count) }
+    ensures { IsAmongPositions block.now unix_leap_time result count }
+{
+    let later = place + count;
+    later_if_reached(block[later - 1], place, later, unix_leap_time)
+}
+
+/// The place of a leap time in a block whose last transition is ahead of it. Each distance is a
+/// constant, so a step takes five instructions, and neither a branch nor a check of bounds.
+#[inline(always)]
+fn place_in_block(block: &[Transition; BLOCK], unix_leap_time: i64) -> usize
+    requires rising { IsRising block.now }
+    requires among { IsAmongPositions block.now unix_leap_time 0 128 }
+    ensures { IsAmongPositions block.now unix_leap_time result 1 }
+{
+    let among_64 = half_of_block(block, 0, 64, unix_leap_time);
+    let among_32 = half_of_block(block, among_64, 32, unix_leap_time);
+    let among_16 = half_of_block(block, among_32, 16, unix_leap_time);
+    let among_8 = half_of_block(block, among_16, 8, unix_leap_time);
+    let among_4 = half_of_block(block, among_8, 4, unix_leap_time);
+    let among_2 = half_of_block(block, among_4, 2, unix_leap_time);
+    half_of_block(block, among_2, 1, unix_leap_time)
+}
+
+/// The position of a leap time among 128, by seven looks, or by as many transitions of a block if
+/// looks are not counted.
 #[inline(always)]
 fn position_in_block(view: &mut TransitionView<'_>, position: usize, unix_leap_time: i64) -> usize
     requires rising { IsRising (list_of view.old) }
@@ -120,13 +165,12 @@ fn position_in_block(view: &mut TransitionView<'_>, position: usize, unix_leap_t
     ensures kept { looks_of view.old ≤ looks_of view.new }
     ensures at_most { looks_of view.new ≤ looks_of view.old + 7 }
 {
-    let among_64 = half(view, position, 64, unix_leap_time);
-    let among_32 = half(view, among_64, 32, unix_leap_time);
-    let among_16 = half(view, among_32, 16, unix_leap_time);
-    let among_8 = half(view, among_16, 8, unix_leap_time);
-    let among_4 = half(view, among_8, 4, unix_leap_time);
-    let among_2 = half(view, among_4, 2, unix_leap_time);
-    half(view, among_2, 1, unix_leap_time)
+    if view.may_guess() {
+        if let Some(block) = view.chunk_at(position) {
+            return position + place_in_block(block, unix_leap_time);
+        }
+    }
+    halved(view, position, BLOCK, 1, unix_leap_time)
 }
 
 /// The position at which a leap time before the last transition lies, by halving.
@@ -157,87 +201,25 @@ fn position_by_halving(view: &mut TransitionView<'_>, unix_leap_time: i64) -> us
     position_in_block(view, block, unix_leap_time)
 }
 
-/// The first of three positions, at one of which a leap time before the last transition lies if two
-/// transitions come in each year.
+/// The position of a leap time before the last transition, if it lies among the four transitions
+/// that are around it where two come in each year. In the last half year of a table there are no
+/// such four, nor where so many would begin before it.
 #[inline(always)]
-fn first_by_time(view: &TransitionView<'_>, unix_leap_time: i64) -> usize
-    requires guess { IsTrue (may_guess_of view.now) }
-    requires some { LEAST_GUESSED ≤ length (list_of view.now) }
-    ensures some { 0 < result }
-    ensures within { result + 2 < length (list_of view.now) }
-{
-    let count = view.len();
-    let left = view
-        .guessed_at(count - 1)
-        .unix_leap_time()
-        .abs_diff(unix_leap_time);
-    let half_years = (left / HALF_YEAR).min((count - 3) as u64).max(1);
-    count - 2 - half_years as usize
-}
-
-/// Whether a leap time lies at one of three positions, by the transitions on either side of them.
-fn is_among_three(view: &TransitionView<'_>, position: usize, unix_leap_time: i64) -> bool
+fn guessed(view: &TransitionView<'_>, last: Transition, unix_leap_time: i64) -> Option<usize>
     requires guess { IsTrue (may_guess_of view.now) }
     requires rising { IsRising (list_of view.now) }
-    requires some { 0 < position }
-    requires within { position + 2 < length (list_of view.now) }
-    ensures { IsTrue result → IsAmongPositions (list_of view.now) unix_leap_time position 3 }
-{
-    view.guessed_at(position - 1).unix_leap_time() <= unix_leap_time
-        && unix_leap_time < view.guessed_at(position + 2).unix_leap_time()
-}
-
-/// The later of two positions, if the transition before it is reached at a leap time, or else the
-/// earlier one, for a guess.
-fn position_after_guess(
-    view: &TransitionView<'_>,
-    position: usize,
-    later: usize,
-    unix_leap_time: i64,
-) -> usize
-    requires guess { IsTrue (may_guess_of view.now) }
-    requires rising { IsRising (list_of view.now) }
-    requires order { position < later }
-    requires within { later ≤ length (list_of view.now) }
-    ensures { ((result ≡ later) × AreReached (list_of view.now) unix_leap_time later)
-        ⊎ ((result ≡ position) × AreAhead (list_of view.now) unix_leap_time (later - 1)) }
-{
-    if view.guessed_at(later - 1).unix_leap_time() <= unix_leap_time {
-        later
-    } else {
-        position
-    }
-}
-
-/// The position of a leap time among three.
-fn position_among_three(view: &TransitionView<'_>, position: usize, unix_leap_time: i64) -> usize
-    requires guess { IsTrue (may_guess_of view.now) }
-    requires rising { IsRising (list_of view.now) }
-    requires among { IsAmongPositions (list_of view.now) unix_leap_time position 3 }
-    ensures within { result < length (list_of view.now) }
-    ensures at { IsPositionAt (list_of view.now) unix_leap_time result }
-{
-    let next = position_after_guess(view, position, position + 1, unix_leap_time);
-    position_after_guess(view, next, position + 2, unix_leap_time)
-}
-
-/// The position of a leap time before the last transition, if it is one of the three positions by
-/// time.
-#[inline(always)]
-fn guessed(view: &TransitionView<'_>, unix_leap_time: i64) -> Option<usize>
-    requires guess { IsTrue (may_guess_of view.now) }
-    requires rising { IsRising (list_of view.now) }
-    requires some { LEAST_GUESSED ≤ length (list_of view.now) }
     ensures within { IfSome result (λ position. position < length (list_of view.now)) }
     ensures at { IfSome result
         (λ position. IsPositionAt (list_of view.now) unix_leap_time position) }
 {
-    let first = first_by_time(view, unix_leap_time);
-    if is_among_three(view, first, unix_leap_time) {
-        Some(position_among_three(view, first, unix_leap_time))
-    } else {
-        None
+    let half_years = last.unix_leap_time().abs_diff(unix_leap_time) / HALF_YEAR;
+    let first = (view.len() as u64).checked_sub(half_years + 3)? as usize;
+    let four: &[Transition; 4] = view.chunk_at(first)?;
+    if unix_leap_time < four[0].unix_leap_time() || four[3].unix_leap_time() <= unix_leap_time {
+        return None;
     }
+    let next = later_if_reached(four[1], first + 1, first + 2, unix_leap_time);
+    Some(later_if_reached(four[2], next, first + 3, unix_leap_time))
 }
 
 /// The position at which a leap time before the last transition lies: by a guess, or else by
@@ -246,7 +228,7 @@ fn guessed(view: &TransitionView<'_>, unix_leap_time: i64) -> Option<usize>
 /// A guess may read in vain, so there is none where the looks are to be few. It decides nothing by
 /// itself: it is taken only if the transitions around it show that it is right.
 #[inline(always)]
-fn position_before(view: &mut TransitionView<'_>, unix_leap_time: i64) -> usize
+fn position_before(view: &mut TransitionView<'_>, last: Transition, unix_leap_time: i64) -> usize
     requires rising { IsRising (list_of view.old) }
     requires at_least_one { 0 < length (list_of view.old) }
     requires ahead { AreAhead (list_of view.old) unix_leap_time (length (list_of view.old) - 1) }
@@ -258,8 +240,8 @@ fn position_before(view: &mut TransitionView<'_>, unix_leap_time: i64) -> usize
         → looks_of view.new ≤ looks_of view.old + b }
 {
     let count = view.len();
-    if count >= LEAST_GUESSED && count <= MOST_GUESSED && view.may_guess() {
-        if let Some(position) = guessed(view, unix_leap_time) {
+    if count <= MOST_GUESSED && view.may_guess() {
+        if let Some(position) = guessed(view, last, unix_leap_time) {
             return position;
         }
     }
@@ -287,7 +269,7 @@ pub(super) fn position_of(
     if last.unix_leap_time() <= unix_leap_time {
         return view.len();
     }
-    position_before(view, unix_leap_time)
+    position_before(view, last, unix_leap_time)
 }
 
 /// The position at which an instant lies: how many transitions are reached. There is none if the

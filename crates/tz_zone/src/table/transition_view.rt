@@ -20,11 +20,11 @@ pub struct TransitionView<'a> {
 }
 
 impl<'a> TransitionView<'a> {
-    ghost use Rattle.std.specs.Prelude.{◌≡◌, ◌+◌, ◌<◌, ◌≤◌, ◌^◌, length, slice_get, Some, IsTrue, true, false};
-    ghost use Rattle.tz_zone.specs.Looks.{list_of, looks_of, may_guess_of, one_look_more};
+    ghost use Rattle.std.specs.Prelude.{◌≡◌, ◌+◌, ◌<◌, ◌≤◌, ◌^◌, length, slice_get, Some, IfSome, IsTrue, true, false};
+    ghost use Rattle.tz_zone.specs.Looks.{list_of, looks_of, may_guess_of, one_look_more, IsChunkAt};
 
     /// The view of these transitions for a caller that wants no count: a position may be guessed,
-    /// by reads that are not counted.
+    /// and several transitions read as an array.
     pub const fn new(transitions: &'a [Transition]) -> Self
         ensures list { list_of result ≡ transitions.now }
         ensures guess { may_guess_of result ≡ true }
@@ -108,12 +108,13 @@ impl<'a> TransitionView<'a> {
         self.may_guess
     }
 
-    /// The transition at an index, for a guess. No look is counted.
-    pub const fn guessed_at(&self, index: usize) -> Transition
+    /// `N` transitions from an index on, if there are so many, for a caller that wants no count.
+    pub fn chunk_at<const N: usize>(&self, index: usize) -> Option<&'a [Transition; N]>
         requires guess { IsTrue (may_guess_of self.now) }
-        requires within { index < length (list_of self.now) }
-        ensures { slice_get (list_of self.now) index ≡ Some result }
+        requires within { index ≤ length (list_of self.now) }
+        ensures { IfSome result (λ chunk. IsChunkAt (list_of self.now) index N chunk.now) }
     {
-        self.transitions[index]
+        let (_, rest) = self.transitions.split_at(index);
+        rest.first_chunk()
     }
 }

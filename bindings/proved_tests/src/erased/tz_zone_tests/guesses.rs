@@ -15,8 +15,9 @@ const DAY: i64 = 86_400;
 /// When the first transition comes, and two distances that follow in turn.
 type Distances = (i64, i64, i64);
 
-/// The least and the greatest number at which a place is guessed, and the numbers beside them.
-static COUNTS: [u32; 4] = [8, 9, 1024, 1025];
+/// The least and the greatest number at which a place is guessed, that of a block, and the numbers
+/// beside them.
+static COUNTS: [u32; 15] = [0, 1, 2, 3, 4, 5, 8, 9, 127, 128, 129, 130, 257, 1024, 1025];
 
 static DISTANCES: [Distances; 7] = [
     // All a second apart: the guess lies near the end.
