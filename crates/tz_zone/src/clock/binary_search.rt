@@ -222,6 +222,32 @@ fn guessed(view: &TransitionView<'_>, last: Transition, unix_leap_time: i64) -> 
     Some(later_if_reached(four[2], next, first + 3, unix_leap_time))
 }
 
+/// The position of a leap time before the last of 128 to 256 transitions, all of which lie in the
+/// first or in the last 128.
+///
+/// Their number says how to halve, which a search in longer tables has to find.
+#[inline(always)]
+fn in_two_blocks(view: &TransitionView<'_>, unix_leap_time: i64) -> Option<usize>
+    requires guess { IsTrue (may_guess_of view.now) }
+    requires rising { IsRising (list_of view.now) }
+    requires ahead { AreAhead (list_of view.now) unix_leap_time (length (list_of view.now) - 1) }
+    ensures within { IfSome result (λ position. position < length (list_of view.now)) }
+    ensures at { IfSome result
+        (λ position. IsPositionAt (list_of view.now) unix_leap_time position) }
+{
+    let count = view.len();
+    if count < BLOCK || count > 2 * BLOCK {
+        return None;
+    }
+    let start = count - BLOCK;
+    let early: &[Transition; BLOCK] = view.chunk_at(0)?;
+    let late: &[Transition; BLOCK] = view.chunk_at(start)?;
+    if early[BLOCK - 1].unix_leap_time() <= unix_leap_time {
+        return Some(start + place_in_block(late, unix_leap_time));
+    }
+    Some(place_in_block(early, unix_leap_time))
+}
+
 /// The position at which a leap time before the last transition lies: by a guess, or else by
 /// halving.
 ///
@@ -242,6 +268,9 @@ fn position_before(view: &mut TransitionView<'_>, last: Transition, unix_leap_ti
     let count = view.len();
     if count <= MOST_GUESSED && view.may_guess() {
         if let Some(position) = guessed(view, last, unix_leap_time) {
+            return position;
+        }
+        if let Some(position) = in_two_blocks(view, unix_leap_time) {
             return position;
         }
     }
