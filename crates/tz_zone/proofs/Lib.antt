@@ -27,6 +27,7 @@ pub mod SegmentPositions
 pub mod SegmentTypes
 pub mod TzFileLaws
 pub mod TzNames
+mod TzRecords
 pub mod TzTables
 pub mod TextRuns
 pub mod TextNumbers

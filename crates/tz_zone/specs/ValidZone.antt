@@ -37,6 +37,11 @@ RisesAt z i = RisesAtIndex z.transitions i
 abbrev pub IsRising : List Transition → Type 0
 IsRising transitions = (i : ℕ) → RisesAtIndex transitions i
 
+-- each names one of this many types, and comes before the next one
+abbrev pub AreSound : List Transition → ℕ → Type 0
+AreSound transitions types =
+    (i : ℕ) → HasTypeAtIndex transitions types i × RisesAtIndex transitions i
+
 -- the first leap second comes at 0 or later; its correction may be any of 32 bits
 abbrev pub MayBeFirst : LeapSecond → Type 0
 MayBeFirst l = (pos 0 ≤ℤ l.unix_leap_time) × FitsSigned w32 l.correction

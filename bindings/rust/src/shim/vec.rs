@@ -29,9 +29,7 @@ impl<T, A: Allocator> Vec<T, A> {
     /// The vector of an array's items.
     pub fn from_array<const N: usize>(alloc: A, array: [T; N]) -> Result<Self, AllocError> {
         let mut made = Vec::with_capacity(alloc, N)?;
-        for item in array {
-            made.items.push(item);
-        }
+        made.items.extend(array);
         Ok(made)
     }
 
@@ -70,15 +68,13 @@ impl<T, A: Allocator> Vec<T, A> {
     /// Appends an item.
     #[inline]
     pub fn push(&mut self, item: T) -> Result<(), AllocError> {
-        self.reserve(1)?;
-        self.items.push(item);
-        Ok(())
+        self.reserve(1).map(|()| self.items.push(item))
     }
 
-    /// Appends an item for which there is room.
+    /// Appends the items of an iterator that knows their number.
     #[inline]
-    pub fn push_reserved(&mut self, item: T) {
-        self.items.push(item);
+    pub fn extend(&mut self, items: impl ExactSizeIterator<Item = T>) -> Result<(), AllocError> {
+        self.reserve(items.len()).map(|()| self.items.extend(items))
     }
 
     /// The items.
@@ -92,9 +88,8 @@ impl<T: Clone, A: Allocator> Vec<T, A> {
     /// Appends these items.
     #[inline]
     pub fn extend_from_slice(&mut self, items: &[T]) -> Result<(), AllocError> {
-        self.reserve(items.len())?;
-        self.items.extend_from_slice(items);
-        Ok(())
+        let room = self.reserve(items.len());
+        room.map(|()| self.items.extend_from_slice(items))
     }
 
     /// A copy, on the same allocator.

@@ -6,7 +6,7 @@ ghost use Rattle.tz_base.specs.declared.error.TzFileError.TheVariants as file;
 ghost use Rattle.std.specs.Prelude.{◌≡◌, ◌+◌, ◌≤◌, length, take, drop, ◌*◌, MatchBool, ◌<◌, ◌^◌};
 ghost use Rattle.std.specs.Prelude.{MatchResult, IfOk, OnOk, IfErr, option_copied, ℕ, ◌⊎◌, ◌==◌};
 ghost use Rattle.std.specs.Prelude.{alloc_error, MatchOption, slice_index, ◌≢◌, ◌-◌, [], Some};
-ghost use Rattle.std.specs.Prelude.{Contains, slice_get};
+ghost use Rattle.std.specs.Prelude.{Contains, slice_get, true, ◌<ℤ◌};
 ghost use Rattle.std.specs.Int.{w32, w64, byte_len};
 ghost use Rattle.std.specs.List.{position_from};
 ghost use Rattle.tz_zone.specs.FileSizes.{AreSizesOf};
@@ -17,6 +17,7 @@ ghost use Rattle.tz_zone.specs.TzFileFault.{FirstTypeFails, IndicatorsFail, Cont
 ghost use Rattle.tz_zone.specs.TzFileFault.{FooterFails, ExtraRuleFails, IsReadFault};
 ghost use Rattle.tz_zone.specs.TzParts.{width_of, unit_view, counts_view, block_view, HasSizes};
 ghost use Rattle.tz_zone.specs.TzParts.{IsSized, HasTables};
+ghost use Rattle.tz_zone.specs.ValidZone.{AreSound, RisesAtIndex};
 ghost use Rattle.tz_zone.specs.ZoneRef.{own_zone_of};
 
 use super::tz_string::parse_posix_tz;
@@ -425,41 +426,47 @@ pub fn file_sizes(bytes: &[u8]) -> Result<FileSizes, TzFileError>
     })
 }
 
-/// The transition of a record. The size of its time is an argument, so that a caller with a
-/// constant has a loop of its own without a test.
-#[tactic(auto, unfolding(crate::specs::TzFile::change_at))]
-fn transition_at(size: TimeSize, unit: &Unit<'_>, index: u32) -> Transition
-    requires size { size ≡ unit.now.size }
-    requires sized { IsSized unit.now }
-    requires within { index < unit.now.counts.transition }
-    ensures { result ≡ Spec.change_at (width_of unit.now.size) (block_view unit.now.block) index }
-{
-    let at = size.times_len(index) as usize;
-    let unix_leap_time = time_at(size, unit.block.times, at);
-    let local_time_type_index = unit.block.indexes[index as usize];
-    Transition::new(unix_leap_time, usize::from(local_time_type_index))
-}
-
-/// The transitions, in their order, with times of a size that the caller knows.
-#[tactic(auto, using(crate::proofs::TzTables::tables))]
-fn read_transitions_of<A: Allocator + Copy>(
+/// The transitions, in their order, with times of four bytes.
+fn read_short_transitions<A: Allocator + Copy>(
     alloc: A,
-    size: TimeSize,
     unit: &Unit<'_>,
 ) -> Result<Vec<Transition, A>, AllocError>
-    requires size { size ≡ unit.now.size }
+    requires size { width_of unit.now.size ≡ w32 }
     requires sized { IsSized unit.now }
     ensures { IfOk result (λ v. v.items ≡ Spec.transitions_of
         (width_of unit.now.size) (block_view unit.now.block) unit.now.counts.transition) }
 {
     let mut transitions = Vec::with_capacity(alloc, unit.counts.transition as usize)?;
-    for i in 0..unit.counts.transition {
-        transitions.push_reserved(transition_at(size, unit, i));
-    }
+    let times = unit.block.times.chunks_exact(4);
+    transitions.extend(
+        times.zip(unit.block.indexes).map(|(time, index)| {
+            Transition::new(i64::from(signed_at(time, 0)), usize::from(*index))
+        }),
+    )?;
     Ok(transitions)
 }
 
-/// The transitions, in their order.
+/// The transitions, in their order, with times of eight bytes.
+fn read_long_transitions<A: Allocator + Copy>(
+    alloc: A,
+    unit: &Unit<'_>,
+) -> Result<Vec<Transition, A>, AllocError>
+    requires size { width_of unit.now.size ≡ w64 }
+    requires sized { IsSized unit.now }
+    ensures { IfOk result (λ v. v.items ≡ Spec.transitions_of
+        (width_of unit.now.size) (block_view unit.now.block) unit.now.counts.transition) }
+{
+    let mut transitions = Vec::with_capacity(alloc, unit.counts.transition as usize)?;
+    let times = unit.block.times.chunks_exact(8);
+    transitions.extend(
+        times.zip(unit.block.indexes).map(|(time, index)| {
+            Transition::new(long_signed_at(time, 0), usize::from(*index))
+        }),
+    )?;
+    Ok(transitions)
+}
+
+/// The transitions, in their order. Each size of times has a loop of its own, without a test.
 fn read_transitions<A: Allocator + Copy>(
     alloc: A,
     unit: &Unit<'_>,
@@ -469,8 +476,8 @@ fn read_transitions<A: Allocator + Copy>(
         (width_of unit.now.size) (block_view unit.now.block) unit.now.counts.transition) }
 {
     match unit.size {
-        TimeSize::Four => read_transitions_of(alloc, TimeSize::Four, unit),
-        TimeSize::Eight => read_transitions_of(alloc, TimeSize::Eight, unit),
+        TimeSize::Four => read_short_transitions(alloc, unit),
+        TimeSize::Eight => read_long_transitions(alloc, unit),
     }
 }
 
@@ -628,6 +635,53 @@ fn check_indicators(unit: &Unit<'_>) -> Result<(), TzFileError>
     Ok(())
 }
 
+/// Whether all bytes are below a number. The loop takes no branch, and may be over many at once.
+fn are_below(bytes: &[u8], bound: usize) -> bool
+    ensures { result ≡ true → (i : ℕ) → i < length bytes.now → slice_index bytes.now i < bound }
+{
+    let mut greatest = 0;
+    for byte in bytes {
+        greatest = greatest.max(*byte);
+    }
+    usize::from(greatest) < bound
+}
+
+/// Whether a transition has an earlier leap time than another one.
+const fn is_earlier(change: Transition, next: Transition) -> bool
+    ensures { MatchBool result (change.unix_leap_time <ℤ next.unix_leap_time)
+        (¬ (change.unix_leap_time <ℤ next.unix_leap_time)) }
+{
+    change.unix_leap_time() < next.unix_leap_time()
+}
+
+/// Whether each transition comes before the next one. The loop takes no branch on the times, and
+/// reads each of them once.
+fn all_rise(transitions: &[Transition]) -> bool
+    ensures { result ≡ true → (i : ℕ) → RisesAtIndex transitions.now i }
+{
+    let Some((first, rest)) = transitions.split_first() else {
+        return true;
+    };
+    let mut rise = true;
+    let mut last = *first;
+    for next in rest {
+        rise &= is_earlier(last, *next);
+        last = *next;
+    }
+    rise
+}
+
+/// Whether the transitions of a unit rise and name types, whose number is given. If not, an exact
+/// check finds the first fault.
+fn are_sound(unit: &Unit<'_>, transitions: &[Transition], types: usize) -> bool
+    requires sized { IsSized unit.now }
+    requires read { transitions.now ≡ Spec.transitions_of (width_of unit.now.size)
+        (block_view unit.now.block) unit.now.counts.transition }
+    ensures { result ≡ true → AreSound transitions.now types }
+{
+    are_below(unit.block.indexes, types) && all_rise(transitions)
+}
+
 /// The tables of a file.
 #[derive(Drop)]
 struct Tables<A: Allocator + Copy = Global> {
@@ -777,7 +831,10 @@ fn parse_tz_file<A: Allocator + Copy>(alloc: A, bytes: &[u8]) -> Result<TimeZone
     if !may_hold(frame.unit.version, &tables.leap_seconds) {
         return Err(TzError::TimeZone(TimeZoneError::InvalidLeapSecond));
     }
-    TimeZone::new(
+    let types = tables.local_time_types.len();
+    let are_sound = are_sound(&frame.unit, &tables.transitions, types);
+    TimeZone::with_transitions(
+        are_sound,
         tables.transitions,
         tables.local_time_types,
         tables.leap_seconds,

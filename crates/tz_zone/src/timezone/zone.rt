@@ -77,12 +77,12 @@ impl<A: Allocator + Copy> Hash for TimeZone<A> {
 }
 
 impl<A: Allocator + Copy> TimeZone<A> {
-    ghost use Rattle.std.specs.Prelude.{◌≡◌, ◌⊎◌, pos, alloc_error, IfOk, IfErr, OnOk};
+    ghost use Rattle.std.specs.Prelude.{◌≡◌, ◌⊎◌, pos, alloc_error, IfOk, IfErr, OnOk, length, true};
     ghost use Rattle.tz_base.specs.declared.error.LocalTimeTypeError.TheVariants as faults;
     ghost use Rattle.tz_rule.specs.LocalTimeType.{plain_type, IsOffset};
     ghost use Rattle.tz_zone.specs.Table.{zone_with, zone_of_type};
     ghost use Rattle.tz_zone.specs.Clock.{IsClock, IsLookupFault};
-    ghost use Rattle.tz_zone.specs.ValidZone.{IsValidZone, IsFirstZoneFault};
+    ghost use Rattle.tz_zone.specs.ValidZone.{AreSound, IsValidZone, IsFirstZoneFault};
     ghost use Rattle.tz_zone.specs.ZoneRef.{zone_of, own_zone_of};
 
     /// The zone with these parts. (RFC 8536, section 3.2)
@@ -130,7 +130,35 @@ impl<A: Allocator + Copy> TimeZone<A> {
         ensures err { IfErr result (IsFirstZoneFault
             (zone_with transitions.items local_time_types.items leap_seconds.items extra_rule)) }
     {
+        TimeZone::with_transitions(
+            false,
+            transitions,
+            local_time_types,
+            leap_seconds,
+            extra_rule,
+        )
+    }
+
+    /// The zone with these parts, of which the transitions may be known to be sound.
+    pub(crate) fn with_transitions(
+        are_sound: bool,
+        transitions: Vec<Transition, A>,
+        local_time_types: Vec<LocalTimeType, A>,
+        leap_seconds: Vec<LeapSecond, A>,
+        extra_rule: Option<TransitionRule>,
+    ) -> Result<Self, TzError>
+        requires { are_sound ≡ true
+            → AreSound transitions.items (length local_time_types.items) }
+        ensures parts { IfOk result (λ z. own_zone_of z
+            ≡ zone_with transitions.items local_time_types.items
+            leap_seconds.items extra_rule) }
+        ensures ok { OnOk result (IsValidZone (zone_with transitions.items local_time_types.items
+            leap_seconds.items extra_rule)) }
+        ensures err { IfErr result (IsFirstZoneFault
+            (zone_with transitions.items local_time_types.items leap_seconds.items extra_rule)) }
+    {
         check_parts(
+            are_sound,
             &transitions,
             &local_time_types,
             &leap_seconds,

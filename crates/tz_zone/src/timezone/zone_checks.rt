@@ -1,12 +1,12 @@
 //! The checks of a zone: transitions in order and to types of the zone, its table of leap seconds,
 //! and a rule that agrees with the last transition.
 
-ghost use Rattle.std.specs.Prelude.{◌≡◌, ℕ, ◌+◌, ◌<◌, length, OnOk, IfOk, IfErr, MatchBool, ◌⊎◌, ℤ, ◌≤ℤ◌};
+ghost use Rattle.std.specs.Prelude.{◌≡◌, ℕ, ◌+◌, ◌<◌, length, OnOk, IfOk, IfErr, MatchBool, ◌⊎◌, ℤ, ◌≤ℤ◌, true};
 ghost use Rattle.tz_rule.specs.LocalTimeType.{LocalTimeType};
 ghost use Rattle.tz_rule.specs.RuleRef.{rule_seen};
 ghost use Rattle.tz_zone.specs.Table.{zone_with};
 ghost use Rattle.tz_zone.specs.BorrowedRules.{borrowed_rule};
-ghost use Rattle.tz_zone.specs.ValidZone.{IsRuleTypeAt, AreLeapSeconds, HasTypeAtIndex, RisesAtIndex, IsFirstTransitionFault, IsSoundTable, IsRuleFault, RuleAnswers, RuleAgrees, IsValidZone, IsFirstZoneFault};
+ghost use Rattle.tz_zone.specs.ValidZone.{AreSound, IsRuleTypeAt, AreLeapSeconds, HasTypeAtIndex, RisesAtIndex, IsFirstTransitionFault, IsSoundTable, IsRuleFault, RuleAnswers, RuleAgrees, IsValidZone, IsFirstZoneFault};
 ghost use Rattle.tz_zone.specs.Offsets.{IsOffsetOfTypes, IsOffsetOfRule, IsLeastOffset, IsGreatestOffset};
 
 use super::{LeapSecond, LocalTimeType, Transition};
@@ -38,8 +38,7 @@ const fn rises_at(transitions: &[Transition], index: usize) -> bool
 
 /// Each transition names one of the types, whose number is given, and comes before the next one.
 fn check_transitions(transitions: &[Transition], types: usize) -> Result<(), TimeZoneError>
-    ensures ok { OnOk result ((i : ℕ) → HasTypeAtIndex transitions.now types i
-        × RisesAtIndex transitions.now i) }
+    ensures ok { OnOk result (AreSound transitions.now types) }
     ensures err { IfErr result (IsFirstTransitionFault transitions.now types) }
 {
     for i in 0..transitions.len() {
@@ -51,6 +50,23 @@ fn check_transitions(transitions: &[Transition], types: usize) -> Result<(), Tim
         }
     }
     Ok(())
+}
+
+/// Whether transitions can be those of a zone with so many types, without a look at any if they are
+/// known to be sound.
+fn check_unless_sound(
+    are_sound: bool,
+    transitions: &[Transition],
+    types: usize,
+) -> Result<(), TimeZoneError>
+    requires { are_sound ≡ true → AreSound transitions.now types }
+    ensures ok { OnOk result (AreSound transitions.now types) }
+    ensures err { IfErr result (IsFirstTransitionFault transitions.now types) }
+{
+    if are_sound {
+        return Ok(());
+    }
+    check_transitions(transitions, types)
 }
 
 /// The type that a rule has where a leap time takes effect.
@@ -112,11 +128,13 @@ fn check_extra_rule(
 /// Checks the parts of a zone, in the order of their errors. The transitions may be known to be
 /// sound.
 pub(crate) fn check_parts(
+    are_sound: bool,
     transitions: &[Transition],
     local_time_types: &[LocalTimeType],
     leap_seconds: &[LeapSecond],
     extra_rule: Option<RuleRef<'_>>,
 ) -> Result<(), TzError>
+    requires { are_sound ≡ true → AreSound transitions.now (length local_time_types.now) }
     ensures ok { OnOk result (IsValidZone
         (zone_with transitions.now local_time_types.now leap_seconds.now
         (borrowed_rule extra_rule.entry))) }
@@ -127,7 +145,7 @@ pub(crate) fn check_parts(
     if local_time_types.is_empty() {
         return Err(TzError::TimeZone(TimeZoneError::NoLocalTimeType));
     }
-    if let Err(error) = check_transitions(transitions, local_time_types.len()) {
+    if let Err(error) = check_unless_sound(are_sound, transitions, local_time_types.len()) {
         return Err(TzError::TimeZone(error));
     }
     if !are_leap_seconds(leap_seconds) {

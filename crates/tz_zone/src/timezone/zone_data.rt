@@ -83,7 +83,7 @@ impl<'a> ZoneData<'a> {
             (zone_with transitions.now local_time_types.now leap_seconds.now
             (borrowed_rule rule.entry))) }
     {
-        check_parts(transitions, local_time_types, leap_seconds, rule)?;
+        check_parts(false, transitions, local_time_types, leap_seconds, rule)?;
         let (least_offset, greatest_offset) = offset_range(local_time_types, rule);
         Ok(ZoneData {
             transitions,

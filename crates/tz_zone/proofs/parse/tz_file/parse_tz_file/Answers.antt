@@ -1,5 +1,6 @@
 -- What the tables and the rule make is the zone of the file, and what they fail to make is a fault of it.
 use Rattle.tz_zone.proofs.Common.{◌≡◌, refl, inr, inl, ◌∙◌, subst, ap, Zone, own_zone_of, zone_with, IfErr-weaker, IsReadFault, Part, err_from_is_err_and, option_copied, part_of, ContentFails, HoldsLeapSeconds, IsContent, IsFirstZoneFault, zone_of_part, unit_view}
+use Rattle.tz_zone.specs.ValidZone.{AreSound}
 use Rattle.tz_zone.proofs.TzFileLaws.{zone_of_tables, holds_from_tables, tables_from_holds, rule_of_file, rule_fault_of_file, made_is_file}
 use Rattle.tz_zone.proofs.parse.tz_file.parse_tz_file.Goals as goal
 
@@ -69,9 +70,9 @@ returns g c =
     let zone : made ≡ zone_of_part (part_of bytes) rule = zone_of_tables unit tables rule c.in_ok-tables.ensures.value
     ∙ ap (λ (p : Part). zone_of_part p rule) same in
     record {
-      ok = made_is_file bytes rule made own_zone_of c.new.result c.in_ok-frame.ensures.ok content holds of_file zone
-          c.new.ensures.parts c.new.ensures.ok;
-      err = IfErr-weaker c.new.result (IsFirstZoneFault made) (IsReadFault bytes)
+      ok = made_is_file bytes rule made own_zone_of c.with_transitions.result c.in_ok-frame.ensures.ok content holds
+          of_file zone c.with_transitions.ensures.parts c.with_transitions.ensures.ok;
+      err = IfErr-weaker c.with_transitions.result (IsFirstZoneFault made) (IsReadFault bytes)
           (λ e fault. inr (inr (inr (inr (
             c.in_ok-frame.ensures.ok,
             content,
@@ -80,5 +81,10 @@ returns g c =
             inr
                 (holds, subst (λ (z : Zone). IsFirstZoneFault z e) zone fault),
           )))))
-          c.new.ensures.err;
+          c.with_transitions.ensures.err;
     }
+
+pub with_transitions-requires : goal.with_transitions-requires
+with_transitions-requires g c = λ sound. subst (AreSound c.in_ok-tables.tables.transitions.items)
+    (c.len-types.ensures ∙ c.in_ok-tables.tables.local_time_types.ok.0)
+    (rw c.deref-2.ensures.value at (c.are_sound-are_sound.ensures sound))

@@ -1,6 +1,6 @@
 -- A zone is made of its parts.
 use Rattle.tz_zone.proofs.Common.{to_z-of_z, rules, w32}
-use Rattle.tz_zone.proofs.timezone.zone.TimeZone.new.Goals as goal
+use Rattle.tz_zone.proofs.timezone.zone.TimeZone.with_transitions.Goals as goal
 
 pub invariant_of-result-clause-sound : goal.invariant_of-result-clause-sound
 invariant_of-result-clause-sound g c =
@@ -20,4 +20,7 @@ invariant_of-result-clause-offsets g c =
       to_z-of_z w32 ends.result.1 (search rules),
       ← c.deref-4.ensures.value,
     )
-    (∣ (rw c.lent-2.ensures at ends.ensures.least, rw c.lent-2.ensures at ends.ensures.greatest) ∣₁)
+    (∣ (rw c.rule_ref-2.ensures at ends.ensures.least, rw c.rule_ref-2.ensures at ends.ensures.greatest) ∣₁)
+
+pub check_parts-requires : goal.check_parts-requires
+check_parts-requires g c = rw (c.deref.ensures.value, c.deref-2.ensures.value) c.requires
