@@ -69,9 +69,10 @@ pub use Rattle.tz.specs.Ends.{entry_of, AreMore, GainsInside, HasInside, IsEndsO
 pub use Rattle.tz.specs.Entries.{Shown, Jump, Entry, IsEntryInside, HasTwoTypes, IsEntryIn, borrowed_type, AreEntries, IsEntryOf, IsRefused, AreEntriesBefore, HoldsAt, IsEarlier, IsEntryOutside, IsGiven, IsTaker}
 pub use Rattle.tz.specs.EntryDateTimes.{IsMadeOf, IsDateTimeOf, IsDatedFault, dated_goes_on, dated_more, dated_none}
 pub use Rattle.tz.specs.FindFaults.{IsFindFault, IsPromised, IsSearchFault, HasPlainOffsets, HasRuleOffsets, IsFarFromEnds, IsInsideEnds}
-pub use Rattle.tz.specs.Found.{Clock, EachCanBeMade, IsFound, IsFoundBy, PassesOver, IsJumpOver, Shows, instant_of, CanBeMade, OneCannotBeMade, first_side}
-pub use Rattle.tz.specs.LocalMeanings.{HasMeaning, meaning_of, ChoicesAgree}
-pub use Rattle.tz.specs.Meanings.{IsMeaning, IsMeantIn, instant_meant, IsMeaningFault, entry_meant, IsMeantFault, first_shown, last_entry, only_shown}
+pub use Rattle.tz.specs.Found.{EachCanBeMade, IsFound, IsFoundBy, instant_of, CanBeMade, OneCannotBeMade, first_side}
+pub use Rattle.tz.specs.GapsAndFolds.{Clock, PassesOver, IsJumpOver, Shows}
+pub use Rattle.tz.specs.Meanings.{HasMeaning, meaning_of, ChoicesAgree}
+pub use Rattle.tz.specs.Choices.{IsMeaning, IsMeantIn, instant_meant, IsMeaningFault, entry_meant, IsMeantFault, first_shown, last_entry, only_shown}
 pub use Rattle.tz.specs.Outcomes.{IsOutcome}
 pub use Rattle.tz.specs.PrintedBytes.{AreBetween, IsDigitByte}
 pub use Rattle.tz.specs.PrintedText.{last_digits, seconds_text}

@@ -1,7 +1,7 @@
 -- Entries that are all inside the years of 32 bits have a list of date times, and its ends are those of the entries.
 use Rattle.tz.proofs.Common.{arith, refl, ◌≡◌, ◌≢◌, subst, ◌∙◌, inr, sym, [], ap, ℕ, ◌∷◌, ◌<◌, List, length, ℤ, Fields, IsClock, Some, Zone, ◌++◌, suc, ◌-ℤ◌, zero, ◌+ℤ◌, ◌-◌, IsValid, None, Option, LocalTimeType, reading, Shown, get_or, Jump, Normal, Entry, FoundDateTimeKind, length-append, Clock, DateTime, EachCanBeMade, IsReading, Skipped, TzError, IsEntryInside, IsFound, IsEntryIn, ShowsByClock, All, Disambiguation, HasMeaning, IsClockFault, IsMeaning, IsMeantIn, More, ShowsInstant, entry_of, instant_meant, moment_of, ⊤, AllZip, AllZip-long, Bor, Compatible, Earlier, IsMadeOf, IsMeaningFault, IsRefused, IsSearchFault, Later, Nothing, Once, Reject, Shows, Twice, meaning_of, option_map, option_or, slice_get, slice_get-get_or, All-head, All-tail, AreMore, GainsInside, HasInside, IsEndsOf, IsOutsideFault, IsTaker, first_entry, gains_more, gains_none, instant_between}
 use Rattle.tz.specs.Ends.{entry_meant, first_shown, last_entry}
-use Rattle.tz.specs.Meanings.{entry_meant as found_meant, first_shown as first_found_shown, last_entry as last_found}
+use Rattle.tz.specs.Choices.{entry_meant as found_meant, first_shown as first_found_shown, last_entry as last_found}
 use Rattle.tz.specs.declared.datetime.disambiguation.Ends.{Ends}
 use Rattle.tz.specs.declared.datetime.disambiguation.Entry.{Entry as LentEntry}
 use Rattle.tz.specs.declared.datetime.disambiguation.Entry.TheVariants as lent

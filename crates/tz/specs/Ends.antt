@@ -12,7 +12,7 @@ use Rattle.tz_zone.specs.Clock.{IsClock}
 use Rattle.tz_zone.specs.Table.{Zone}
 use Rattle.tz.specs.Entries.{Entry, Shown, Jump, AreEntries, HasTwoTypes, IsEntryIn}
 use Rattle.tz.specs.Entries.{IsEntryInside, IsEntryOutside}
-use Rattle.tz.specs.Found.{Clock}
+use Rattle.tz.specs.GapsAndFolds.{Clock}
 use Rattle.tz.specs.Growth.{HoldsMore, holds_more, holds_none}
 use Rattle.tz.specs.declared.datetime.disambiguation.Disambiguation.{Disambiguation}
 use Rattle.tz.specs.declared.datetime.disambiguation.Disambiguation.TheVariants.{Compatible}

@@ -10,7 +10,7 @@ use Rattle.tz_rule.specs.LocalTimeType.{LocalTimeType}
 use Rattle.tz_zone.specs.Clock.{IsClock}
 use Rattle.tz_zone.specs.Table.{Zone}
 use Rattle.tz_zone.specs.ValidZone.{AreLeapSeconds}
-use Rattle.tz.specs.Found.{Clock, IsJumpOver, Shows, PassesOver}
+use Rattle.tz.specs.GapsAndFolds.{Clock, IsJumpOver, Shows, PassesOver}
 use Rattle.tz.specs.Reached.{AreOffsetsOf}
 
 -- an instant with the type that shows the reading there, or the instant of a jump with the types

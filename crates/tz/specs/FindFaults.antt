@@ -11,7 +11,8 @@ use Rattle.tz_rule.specs.declared.timezone.transition_rule.TransitionRule.{Trans
 use Rattle.tz_rule.specs.declared.timezone.transition_rule.TransitionRule.TheVariants.{Fixed, Alternate}
 use Rattle.tz_zone.specs.Table.{Zone}
 use Rattle.tz_zone.specs.Clock.{IsTypeAt}
-use Rattle.tz.specs.Found.{Clock, OneCannotBeMade}
+use Rattle.tz.specs.Found.{OneCannotBeMade}
+use Rattle.tz.specs.GapsAndFolds.{Clock}
 
 -- the first fault of the fields
 abbrev pub IsFieldFault : Fields → TzError → Type 0

@@ -1,11 +1,12 @@
 -- What a search finds: instants at which a clock shows a reading, and forward jumps of a clock over
 -- it.
-use Rattle.std.specs.Prelude.{◌≡◌, ◌-◌, ℤ, pos, ◌+ℤ◌, ◌-ℤ◌, ◌≤ℤ◌, ◌<ℤ◌, List, [], ◌∷◌, Option, Some, None, length, slice_get, ⊤}
+use Rattle.std.specs.Prelude.{◌≡◌, ◌-◌, ℤ, ◌<ℤ◌, List, [], ◌∷◌, Option, Some, None, length, slice_get, ⊤}
 use Rattle.std.specs.List.{All, AllPairs, Contains}
 use Rattle.tz_base.specs.declared.fields.Fields.{Fields}
 use Rattle.tz_base.specs.Fields.{IsReading, reading}
 use Rattle.tz_rule.specs.LocalTimeType.{LocalTimeType}
 use Rattle.tz.specs.DateTimes.{DateTime, ShowsInstant}
+use Rattle.tz.specs.GapsAndFolds.{Clock, PassesOver, Shows}
 use Rattle.tz.specs.declared.datetime.found.FoundDateTimeKind.{FoundDateTimeKind}
 use Rattle.tz.specs.declared.datetime.found.FoundDateTimeKind.TheVariants.{Normal, Skipped}
 
@@ -21,23 +22,6 @@ last_side (Skipped before after) = after
 -- its instant
 abbrev pub instant_of : FoundDateTimeKind → ℤ
 instant_of found = (first_side found).unix_time
-
--- a clock determines at which instants a type holds
-abbrev pub Clock : Type 1
-Clock = ℤ → LocalTimeType → Type 0
-
--- the clock shows the reading at u
-abbrev pub Shows : Clock → ℤ → ℤ → LocalTimeType → Type 0
-Shows clock r u t = clock u t × ((u +ℤ t.ut_offset) ≡ r)
-
--- clocks that change at u from one type to another are set forward over the reading
-abbrev pub IsJumpOver : ℤ → ℤ → LocalTimeType → LocalTimeType → Type 0
-IsJumpOver r u before after = ((u +ℤ before.ut_offset) ≤ℤ r) × (r <ℤ (u +ℤ after.ut_offset))
-
--- the clock passes over the reading at u: the types before u and at u make a forward jump over it
-abbrev pub PassesOver : Clock → ℤ → ℤ → LocalTimeType → LocalTimeType → Type 0
-PassesOver clock r u before after = clock (u -ℤ pos 1) before × clock u after
-    × IsJumpOver r u before after
 
 -- the clock shows the fields, or it passes over them and the sides of the jump are its instant in
 -- both types

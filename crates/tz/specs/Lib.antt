@@ -3,6 +3,7 @@ pub use Rattle.tz_base.specs.Fields
 pub use Rattle.tz_rule.specs.LocalTimeType
 pub use Rattle.tz_zone.specs.TzStrings
 pub mod DateTimes
+pub mod GapsAndFolds
 pub mod Found
 pub mod Slots
 pub mod Growth
@@ -23,6 +24,6 @@ pub mod UtcConstants
 pub mod Lists
 pub mod BorrowedSlots
 pub mod SlotEquality
+pub mod Choices
 pub mod Meanings
-pub mod LocalMeanings
 pub mod Ends

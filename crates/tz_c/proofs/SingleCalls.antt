@@ -6,7 +6,7 @@ use Rattle.tz_base.specs.declared.error.DateTimeError.{DateTimeError}
 use Rattle.tz_base.specs.declared.error.DateTimeError.TheVariants as faults
 use Rattle.tz_base.proofs.LastSeconds.{valid_reading}
 use Rattle.tz_zone.proofs.Clocks.{one_type}
-use Rattle.tz.specs.Meanings.{IsMeaning, IsMeaningFault, instant_meant}
+use Rattle.tz.specs.Choices.{IsMeaning, IsMeaningFault, instant_meant}
 use Rattle.tz_c.specs.DateTimeData.{date_time_data, date_time_of}
 use Rattle.tz_c.specs.declared.date_time_data.DateTimeData.{DateTimeData}
 use Rattle.tz.specs.declared.datetime.found.FoundDateTimeKind.TheVariants.{Normal, Skipped}

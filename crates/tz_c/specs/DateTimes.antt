@@ -10,7 +10,7 @@ use Rattle.tz_zone.specs.Clock.{IsClock}
 use Rattle.tz_zone.specs.Table.{Zone}
 use Rattle.tz.specs.DateTimes.{DateTime, IsDateTime, IsUtcTotal}
 use Rattle.tz.specs.Found.{EachCanBeMade}
-use Rattle.tz.specs.Meanings.{IsMeaning, IsMeaningFault}
+use Rattle.tz.specs.Choices.{IsMeaning, IsMeaningFault}
 use Rattle.tz.specs.declared.datetime.disambiguation.Disambiguation.{Disambiguation}
 use Rattle.tz.specs.declared.datetime.disambiguation.Disambiguation.TheVariants.{Compatible, Earlier, Later, Reject}
 use Rattle.tz_c.specs.Codes.{code_of, no_date_time, unknown_choice}

@@ -512,7 +512,7 @@ impl DateTime {
     ghost use Rattle.tz_zone.specs.Clock.{IsClock};
     ghost use Rattle.tz_zone.specs.ZoneRef.{zone_of};
     ghost use Rattle.tz.specs.Found.{EachCanBeMade};
-    ghost use Rattle.tz.specs.Meanings.{IsMeaning, IsMeaningFault};
+    ghost use Rattle.tz.specs.Choices.{IsMeaning, IsMeaningFault};
 
     /// The one date time that a local time means, or `None` if the zone's clock neither shows it
     /// nor is set forward over it, or if `Reject` rejects it.

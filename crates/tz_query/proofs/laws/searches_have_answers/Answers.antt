@@ -1,7 +1,7 @@
 -- A meaning is that of a list, and each error has a name.
 use Rattle.tz_query.proofs.Common.{rules, SFits, to_z-of_z, w32, sym, subst, refl, inl, inr, [], ◌∷◌, ◌++◌, List, ℕ, codes, IfOk, Result, Ok, Err, Zone, Fields, IsClock, TzError, OutOfRange, field_fault_text, IsFaultText, found_lines, IsSearchAnswer, zone_of}
 use Rattle.tz.specs.FindFaults.{IsFindFault}
-use Rattle.tz.specs.LocalMeanings.{HasMeaning}
+use Rattle.tz.specs.Meanings.{HasMeaning}
 use Rattle.tz.specs.Outcomes.{IsOutcome}
 use Rattle.tz.specs.declared.datetime.disambiguation.Meaning.{Meaning}
 use Rattle.tz_query.proofs.laws.searches_have_answers.Goals as goal
