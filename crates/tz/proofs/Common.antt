@@ -65,7 +65,7 @@ pub use Rattle.tz_zone.specs.ZoneOfData.{zone_of_data}
 pub use Rattle.tz.specs.Buffers.{placed}
 pub use Rattle.tz.specs.DateTimeGrammar.{IsPair, IsDateTimeText, IsFraction, date, time, AreYearDigits, IsDigits, IsYear, duration, offset, EndsDigits, IsHours, IsSecond, IsSeconds, IsByte, IsDateTimeTextFault, IsEnd, IsMark, IsMinutes, IsSeparator, after_mark, byte, date_time}
 pub use Rattle.tz.specs.DateTimes.{DateTime, ShowsByClock, IsClockFault, IsPastTheEnd, IsUtc, ShowsInstant, moment_of, IsDateTime, IsUtcTotal, moment_cmp, total_of, utc_total}
-pub use Rattle.tz.specs.Ends.{entry_of, AreMore, GainsInside, HasInside, IsEndsOf, IsOutsideFault, first_entry, gains_more, gains_none, instant_between}
+pub use Rattle.tz.specs.EntryEnds.{entry_of, AreMore, GainsInside, HasInside, IsEndsOf, IsOutsideFault, first_entry, gains_more, gains_none, instant_between}
 pub use Rattle.tz.specs.Entries.{Shown, Jump, Entry, IsEntryInside, HasTwoTypes, IsEntryIn, borrowed_type, AreEntries, IsEntryOf, IsRefused, AreEntriesBefore, HoldsAt, IsEarlier, IsEntryOutside, IsGiven, IsTaker}
 pub use Rattle.tz.specs.EntryDateTimes.{IsMadeOf, IsDateTimeOf, IsDatedFault, dated_goes_on, dated_more, dated_none}
 pub use Rattle.tz.specs.FindFaults.{IsFindFault, IsPromised, IsSearchFault, HasPlainOffsets, HasRuleOffsets, IsFarFromEnds, IsInsideEnds}
@@ -81,7 +81,7 @@ pub use Rattle.tz.specs.Reached.{AreOffsetsOf}
 pub use Rattle.tz.specs.Windows.{AtMostTakeEffectAround, AtMostTakeEffectIn, IsWindow, TakesEffectIn, first_looks, AreRising, looks_after}
 pub use Rattle.tz.specs.declared.datetime.disambiguation.Disambiguation.{Disambiguation}
 pub use Rattle.tz.specs.declared.datetime.disambiguation.Disambiguation.TheVariants.{Compatible, Earlier, Later, Reject}
-pub use Rattle.tz.specs.declared.datetime.disambiguation.Meaning.TheVariants.{More, Nothing, Once, Twice}
+pub use Rattle.tz.specs.declared.datetime.meaning.Meaning.TheVariants.{More, Nothing, Once, Twice}
 pub use Rattle.tz.specs.declared.datetime.found.FoundDateTimeKind.{FoundDateTimeKind}
 pub use Rattle.tz.specs.declared.datetime.found.FoundDateTimeKind.TheVariants.{Normal, Skipped}
 pub use Rattle.tz.specs.declared.parse.OffsetMark.TheVariants.{Ahead, Behind, Utc, Absent}

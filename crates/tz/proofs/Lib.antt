@@ -18,7 +18,7 @@ pub use Rattle.tz_base.proofs.PrintedDigits
 pub mod ComparisonsByParts
 pub mod FieldOrder
 pub mod TimespecTotals
-pub mod Ends
+pub mod EntryEnds
 pub mod UniqueResults
 pub mod UniqueMeanings
 pub mod LocalMeaningLaws

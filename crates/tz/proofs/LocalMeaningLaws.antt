@@ -1,8 +1,8 @@
 -- A meaning is that of one list, and of this list each choice means one entry or none.
 use Rattle.tz.proofs.Common.{arith, refl, ◌≡◌, subst, ◌∙◌, sym, [], ap, ℕ, ◌∷◌, List, length, Fields, IsClock, Some, Zone, ◌≤◌, ◌-◌, None, Option, reading, ◌≢◌, Normal, FoundDateTimeKind, DateTime, Skipped, IsFound, ShowsByClock, Disambiguation, HasMeaning, IsMeaning, IsMeantIn, More, instant_meant, Compatible, Earlier, Later, Nothing, Once, Reject, Twice, entry_meant, meaning_of, option_or, ChoicesAgree, first_shown, last_entry, only_shown}
 use Rattle.std.proofs.Common.{◌↔◌, slice_get}
-use Rattle.tz.specs.declared.datetime.disambiguation.Meaning.{Meaning}
-use Rattle.tz.specs.declared.datetime.disambiguation.Meaning.TheVariants.{Skipped as Gap}
+use Rattle.tz.specs.declared.datetime.meaning.Meaning.{Meaning}
+use Rattle.tz.specs.declared.datetime.meaning.Meaning.TheVariants.{Skipped as Gap}
 use Rattle.tz.proofs.UniqueLists.{found_unique}
 use Rattle.tz.proofs.UniqueMeanings.{meaning_unique}
 

@@ -3,7 +3,7 @@ use Rattle.tz.proofs.Common.{arith, refl, ◌≡◌, ◌∙◌, inr, sym, inl, [
 use Rattle.std.specs.Prelude.{min, drop}
 use Rattle.tz.specs.Buffers.{GrowsBy}
 use Rattle.tz.specs.Slots.{Slots, filled}
-use Rattle.tz.specs.declared.datetime.entry_takers.SlotWriter.{SlotWriter}
+use Rattle.tz.specs.declared.datetime.slots.SlotWriter.{SlotWriter}
 
 module _ {S : Type 0} where
   pub placed_none : (slots : List S) → placed slots [] ≡ slots

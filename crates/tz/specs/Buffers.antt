@@ -4,7 +4,7 @@ use Rattle.std.specs.Prelude.{◌≡◌, List, [], ◌∷◌, ◌++◌, length, 
 use Rattle.std.proofs.Common.{refl, ◌∙◌}
 use Rattle.tz.specs.Growth.{HoldsMore, holds_more, holds_none}
 use Rattle.tz.specs.declared.datetime.found.FoundDateTimeKind.{FoundDateTimeKind}
-use Rattle.tz.specs.declared.datetime.entry_takers.SlotWriter.{SlotWriter}
+use Rattle.tz.specs.declared.datetime.slots.SlotWriter.{SlotWriter}
 
 -- slots into which a list is put: its front, as far as the slots go, and then the other slots as
 -- they were

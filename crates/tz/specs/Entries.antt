@@ -94,7 +94,7 @@ pub record HasTwoTypes (z : Zone) (r jump : ℤ) (before after : LocalTimeType) 
   pub types_are : (low <ℤ jump) × (jump ≤ℤ high) × ((u : ℤ) → low ≤ℤ u → u <ℤ jump
       → IsClock z u before) × ((u : ℤ) → jump ≤ℤ u → u ≤ℤ high → IsClock z u after)
 
--- a type that is lent
+-- a borrowed type
 abbrev pub borrowed_type : Option (Bor LocalTimeType) → Option LocalTimeType
 borrowed_type type = option_map (λ t. t.now) type
 

@@ -26,4 +26,4 @@ pub mod BorrowedSlots
 pub mod SlotEquality
 pub mod Choices
 pub mod Meanings
-pub mod Ends
+pub mod EntryEnds

@@ -10,7 +10,7 @@ use Rattle.tz.specs.declared.datetime.found.FoundDateTimeListRefMut.{FoundDateTi
 abbrev pub found_of : {A : Type 0} → FoundDateTimeList A → List FoundDateTimeKind
 found_of list = list.found.items
 
--- the slots that a list was lent, and how many date times it counts
+-- the slots that a list borrowed, and how many date times it counts
 abbrev pub slots_of : FoundDateTimeListRefMut → Slots
 slots_of list = list.buf.now
 

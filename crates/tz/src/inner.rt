@@ -3,11 +3,10 @@
 
 pub use crate::datetime::date_time::fields_of;
 pub use crate::datetime::disambiguation::find_one;
-pub use crate::datetime::entry_takers::Slot;
 pub use crate::datetime::find::find_fields;
 pub use crate::datetime::gaps_and_folds::{types_of_window, window_of};
+pub use crate::datetime::slots::{Slot, find_into};
 pub use crate::datetime::utc_date_time::utc_fields_of;
-pub use crate::datetime::zone_data_searches::{find_into, from_timespec};
 pub use crate::parse::{read_digits, value_of};
 pub use tz_base::fields::{Fields, is_reading, local_reading};
 pub use tz_base::print::middle_of;

@@ -37,8 +37,8 @@ ghost use Rattle.tz.specs.declared.datetime.disambiguation.Disambiguation.{Disam
 ghost use Rattle.tz.specs.declared.datetime.disambiguation.Disambiguation.TheVariants.{Reject as reject};
 ghost use Rattle.tz.specs.declared.datetime.found.FoundDateTimeKind.{FoundDateTimeKind};
 ghost use Rattle.tz.specs.declared.datetime.found.FoundDateTimeKind.TheVariants.{Normal as normal, Skipped as skipped};
-ghost use Rattle.tz.specs.declared.datetime.disambiguation.Meaning.{Meaning};
-ghost use Rattle.tz.specs.declared.datetime.disambiguation.Meaning.TheVariants.{Nothing as nothing, Once as once, Twice as twice, Skipped as gap, More as more};
+ghost use Rattle.tz.specs.declared.datetime.meaning.Meaning.{Meaning};
+ghost use Rattle.tz.specs.declared.datetime.meaning.Meaning.TheVariants.{Nothing as nothing, Once as once, Twice as twice, Skipped as gap, More as more};
 ghost use Rattle.tz.specs.contracts.datetime.utc_date_time.UtcDateTimeOrd.TheImpl as utc_order;
 ghost use Rattle.tz.specs.DateTimes.{DateTime, IsDateTime, IsUtc, IsUtcAt, IsPastTheEnd, IsShowFault, IsClockFault, IsForwards, IsBackwards, ShowsByClock, ShowsInstant, utc_total, total_of, moment_eq, moment_cmp};
 

@@ -1,12 +1,13 @@
 //! Date times of a local time type.
 
-ghost use Rattle.std.specs.Prelude.{◌≡◌};
-ghost use Rattle.tz_base.specs.Fields.{IsValid};
-ghost use Rattle.tz.specs.DateTimes.{IsDateTime};
+ghost use Rattle.std.specs.Prelude.{◌≡◌, ◌<◌, ◌+ℤ◌};
+ghost use Rattle.tz_base.specs.Fields.{IsReading, IsValid};
+ghost use Rattle.tz_rule.specs.LocalTimeType.{LocalTimeType};
+ghost use Rattle.tz_zone.specs.Clock.{IsClock};
+ghost use Rattle.tz_zone.specs.ZoneOfData.{zone_of_data};
+ghost use Rattle.tz.specs.DateTimes.{IsDateTime, IsClockFault};
 
 use super::utc_date_time::duration_between;
-use super::zone_data_searches::from_timespec;
-use crate::text_buffer::TextBuffer;
 use std::cmp::Ordering;
 use std::fmt;
 use std::hash::{Hash, Hasher};
@@ -15,8 +16,9 @@ use std::time::Duration;
 use tz_base::constants::NANOSECONDS_PER_SECOND;
 use tz_base::error::{DateTimeError, TzError};
 use tz_base::fields::{Fields, is_reading, local_reading, timespec, total_nanoseconds};
+use tz_base::text_buffer::TextBuffer;
 use tz_rule::timezone::LocalTimeType;
-use tz_zone::inner::plain;
+use tz_zone::inner::ZoneData;
 use tz_zone::timezone::TimeZoneRef;
 
 /// A date time with the local time type that shows it, and its Unix time.
@@ -133,6 +135,7 @@ impl DateTime {
     ghost use Rattle.tz_base.specs.Days.{week_day_of, first_day};
     ghost use Rattle.tz_base.specs.Fields.{IsValid, IsReading, reading, day_of, fields_of};
     ghost use Rattle.tz_rule.specs.LocalTimeType.{LocalTimeType};
+    ghost use Rattle.tz_zone.specs.ZoneOfData.{zone_of_data};
     ghost use Rattle.tz_zone.specs.ZoneRef.{zone_of};
     ghost use Rattle.tz.specs.DateTimes.{DateTime, IsDateTime, ShowsInstant, IsShowFault, IsLocalFault, total_of, IsNearTotal, IsForwards, IsBackwards, ShowsByClock, IsClockFault, IsTotalFault, IsTotalClockFault, ShowsTotal, ShowsTotalByClock};
 
@@ -256,6 +259,31 @@ impl DateTime {
         })
     }
 
+    /// The date time that the zone's clock shows at a Unix time.
+    #[inline(always)]
+    pub(super) fn shown_by_clock(
+        unix_time: i64,
+        nanoseconds: u32,
+        zone: &ZoneData<'_>,
+    ) -> Result<Self, TzError>
+        ensures ok { IfOk result (ShowsByClock (zone_of_data zone.now) unix_time nanoseconds) }
+        ensures reads { IfOk result (λ d. IsReading (reading d.fields)) }
+        ensures err { IfErr result (IsClockFault (zone_of_data zone.now) unix_time nanoseconds) }
+    {
+        if nanoseconds < NANOSECONDS_PER_SECOND {
+            if let Ok(local_time_type) = zone.find_local_time_type(unix_time) {
+                if let Ok(date_time) = DateTime::shown_by(
+                    unix_time,
+                    nanoseconds,
+                    *local_time_type,
+                ) {
+                    return Ok(date_time);
+                }
+            }
+        }
+        Err(clock_fault(unix_time, nanoseconds, *zone))
+    }
+
     /// The date time that the zone's clock shows at a Unix time, with nanoseconds below 10^9.
     ///
     /// What clocks of a zone show at a Unix time, and the name of their time:
@@ -291,7 +319,7 @@ impl DateTime {
         ensures err { IfErr result
             (IsClockFault (zone_of time_zone_ref.entry) unix_time nanoseconds) }
     {
-        from_timespec(unix_time, nanoseconds, &plain(&time_zone_ref))
+        DateTime::shown_by_clock(unix_time, nanoseconds, &ZoneData::of(&time_zone_ref))
     }
 
     /// The date time that the type shows a number of nanoseconds after 1970-01-01T00:00:00Z, or
@@ -488,6 +516,24 @@ impl DateTime {
         ensures sound { IsDateTime self.now }
     {
         &self.fields
+    }
+}
+
+/// Why the zone's clock shows no date time at a Unix time. It looks the type up again, so that a
+/// lookup that succeeds passes on no error, and takes the zone by value, so that this stays in
+/// registers.
+#[cold]
+fn clock_fault(unix_time: i64, nanoseconds: u32, zone: ZoneData<'_>) -> TzError
+    requires { nanoseconds < 1000000000 → (t : LocalTimeType)
+        → IsClock (zone_of_data zone) unix_time t → ¬ IsReading (unix_time +ℤ t.ut_offset) }
+    ensures { IsClockFault (zone_of_data zone.entry) unix_time nanoseconds result }
+{
+    if nanoseconds >= NANOSECONDS_PER_SECOND {
+        return TzError::DateTime(DateTimeError::InvalidNanoseconds);
+    }
+    match zone.find_local_time_type(unix_time) {
+        Ok(_) => TzError::OutOfRange,
+        Err(error) => error,
     }
 }
 

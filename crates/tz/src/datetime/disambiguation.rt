@@ -1,99 +1,58 @@
-//! What a local time means in a zone, without a list: how many entries a search finds, and those of
-//! its ends; and which date time is meant, by a choice for gaps and folds.
+//! Which date time a local time means in a zone, by a choice for gaps and folds.
 
-ghost use Rattle.std.specs.Prelude.{◌≡◌, ◌∷◌, [], IfOk, IfErr, OnOk};
+ghost use Rattle.std.specs.Prelude.{◌≡◌, IfOk, IfErr, OnOk};
 ghost use Rattle.tz_base.specs.Fields.{IsValid, reading as reading_of};
 ghost use Rattle.tz_zone.specs.Clock.{IsClock};
 ghost use Rattle.tz_zone.specs.WindowTypes.{AreTypesIn, IfMore, IsPositionOf};
 ghost use Rattle.tz_zone.specs.ZoneOfData.{zone_of_data};
 ghost use Rattle.tz.specs.DateTimes.{ShowsByClock, IsClockFault};
-ghost use Rattle.tz.specs.Ends.{HasEnds, HasMeant, HasMeantAround, IsOutsideAround};
-ghost use Rattle.tz.specs.Ends.{IsOutsideFault, entry_of, instant_between};
-ghost use Rattle.tz.specs.Entries.{Jump, IsEntryInside, IsRefused};
+ghost use Rattle.tz.specs.EntryEnds.{HasMeant, HasMeantAround, IsOutsideAround, IsOutsideFault};
+ghost use Rattle.tz.specs.EntryEnds.{instant_between};
+ghost use Rattle.tz.specs.Entries.{IsRefused};
 ghost use Rattle.tz.specs.Found.{EachCanBeMade};
-ghost use Rattle.tz.specs.LocalMeanings.{HasMeaning};
-ghost use Rattle.tz.specs.Meanings.{IsMeaning, IsMeaningFault};
-ghost use Rattle.tz.specs.Outcomes.{IsOutcome};
+ghost use Rattle.tz.specs.Choices.{IsMeaning, IsMeaningFault};
 ghost use Rattle.tz.specs.Windows.{IsSearchable, IsSmall};
 
-use super::entry_takers::EntryTaker;
-use super::gaps_and_folds::{give_in_window, passes_over, shown_at, types_of_window, window_of};
-use super::zone_data_searches::from_timespec;
+use super::entry_ends::{Entry, EntryEnds, ends_by_walk, jump_inside};
+use super::gaps_and_folds::{passes_over, shown_at, types_of_window, window_of};
 use super::{DateTime, UtcDateTime};
 use tz_base::error::TzError;
-use tz_base::fields::{Fields, local_reading};
-use tz_zone::inner::{TransitionView, WindowTypes, ZoneData, plain};
+use tz_base::fields::Fields;
+use tz_zone::inner::{WindowTypes, ZoneData};
 use tz_zone::timezone::{LocalTimeType, TimeZoneRef};
 
-/// An entry of a reading.
-#[derive(Clone, Copy)]
-pub(super) enum Entry<'a> {
-    /// At this Unix time the clock shows the reading in this type.
-    Shown(i64, &'a LocalTimeType),
-    /// At this Unix time the clock is set forward over it, from the first type to the second.
-    Jump(i64, &'a LocalTimeType, &'a LocalTimeType),
+/// Which date time a local time means if clocks are set forward over it or show it more than once.
+///
+/// | choice | in a fold, where they show it twice | in a gap, where they skip it |
+/// |---|---|---|
+/// | `Compatible` | the first instant | as much later as clocks are set forward: 2:30 becomes 3:30 |
+/// | `Earlier` | the first instant | as much earlier: 2:30 becomes 1:30 |
+/// | `Later` | the last instant | as much later: 2:30 becomes 3:30 |
+/// | `Reject` | none | none |
+///
+/// If clocks show a local time exactly once and are not set forward over it, all choices mean that.
+/// If they do both, as when they are set back soon after, `Compatible` means the first instant at
+/// which they show it, `Earlier` and `Later` the first and the last entry of
+/// [`DateTime::find`](super::DateTime::find), and `Reject` none.
+#[derive(Clone, Copy, Debug, Default, Hash, PartialEq, Eq)]
+pub enum Disambiguation {
+    /// The first instant at which clocks show it, or, in a gap, as much later as clocks are set
+    /// forward: what calendars do. (RFC 5545, 3.3.5)
+    #[default]
+    Compatible,
+    /// The first entry: an instant at which clocks show it, or, in a gap, as much earlier as clocks
+    /// are set forward.
+    Earlier,
+    /// The last entry: an instant at which clocks show it, or, in a gap, as much later as clocks
+    /// are set forward.
+    Later,
+    /// The only instant at which clocks show it, or none if there are several or if clocks are also
+    /// set forward over it.
+    Reject,
 }
 
-/// How many entries a reading has, the first, the last, and the first that is shown.
-#[derive(Clone, Copy)]
-struct Ends<'a> {
-    count: usize,
-    first: Option<Entry<'a>>,
-    last: Option<Entry<'a>>,
-    shown: Option<Entry<'a>>,
-}
-
-/// A jump, if the local times before and after it are in the years of an `i32`.
-fn jump_inside<'a>(
-    unix_time: i64,
-    before: &'a LocalTimeType,
-    after: &'a LocalTimeType,
-) -> Result<Entry<'a>, TzError>
-    ensures is { IfOk result
-        (λ e. entry_of e ≡ Jump unix_time before.entry.now after.entry.now) }
-    ensures inside { IfOk result (λ e. IsEntryInside (entry_of e)) }
-    ensures err { IfErr result
-        (λ e. IsOutsideFault e (Jump unix_time before.entry.now after.entry.now)) }
-{
-    let Some(_) = local_reading(unix_time, before.ut_offset()) else {
-        return Err(TzError::OutOfRange);
-    };
-    let Some(_) = local_reading(unix_time, after.ut_offset()) else {
-        return Err(TzError::OutOfRange);
-    };
-    Ok(Entry::Jump(unix_time, before, after))
-}
-
-impl<'a> Ends<'a> {
-    ghost use Rattle.std.specs.Prelude.{◌≡◌, ◌+◌, Some, [], min};
-    ghost use Rattle.std.specs.Option.{option_or};
-    ghost use Rattle.tz.specs.Ends.{IsEndsOf, IsMeantOf};
-
-    /// No entries.
-    fn none() -> Self
-        ensures { IsEndsOf [] result }
-    {
-        Ends {
-            count: 0,
-            first: None,
-            last: None,
-            shown: None,
-        }
-    }
-
-    /// Counts one more, which is the last.
-    fn push(&mut self, entry: Entry<'a>)
-        ensures count { self.new.count ≡ min (self.old.count + 1) usize.MAX }
-        ensures first { self.new.first ≡ option_or self.old.first (Some entry.entry) }
-        ensures last { self.new.last ≡ Some entry.entry }
-        ensures shown { self.new.shown ≡ self.old.shown }
-    {
-        // A reading has at most 2^33 entries, and where a `usize` has 32 bits memory has no room
-        // for the transitions of 2^31, so the count never comes to its end.
-        self.count = self.count.saturating_add(1);
-        self.first = self.first.or(Some(entry));
-        self.last = Some(entry);
-    }
+impl<'a> EntryEnds<'a> {
+    ghost use Rattle.tz.specs.EntryEnds.{IsMeantOf};
 
     /// The entry that is meant, if there is one.
     fn meant(&self, disambiguation: Disambiguation) -> Option<Entry<'a>>
@@ -109,88 +68,8 @@ impl<'a> Ends<'a> {
     }
 }
 
-impl<'a> EntryTaker<'a> for Ends<'a> {
-    ghost use Rattle.std.specs.Prelude.{⊤};
-    ghost use Rattle.tz.specs.Ends.{GainsInside, IsOutsideFault};
-
-    ghost gains = { GainsInside };
-
-    ghost takes = { λ ends r. ⊤ };
-
-    ghost refuses = { IsOutsideFault };
-
-    fn shown(&mut self, unix_time: i64, local_time_type: &'a LocalTimeType) -> Result<(), TzError> {
-        let entry = Entry::Shown(unix_time, local_time_type);
-        self.shown = self.shown.or(Some(entry));
-        self.push(entry);
-        Ok(())
-    }
-
-    fn skipped(
-        &mut self,
-        unix_time: i64,
-        before: &'a LocalTimeType,
-        after: &'a LocalTimeType,
-    ) -> Result<(), TzError> {
-        let jump = jump_inside(unix_time, before, after)?;
-        self.push(jump);
-        Ok(())
-    }
-}
-
-/// The ends of all that a reading has in its window. It stands apart, and the zone is passed by
-/// value, so that the zone and the ends stay in registers where this is not called.
-#[cold]
-fn ends_by_walk<'a>(
-    reading: i64,
-    zone: ZoneData<'a>,
-    types: WindowTypes<'a>,
-    low: i64,
-    high: i64,
-) -> Result<Ends<'a>, TzError>
-    requires searchable { IsSearchable (zone_of_data zone) reading low high }
-    requires types { AreTypesIn (IsClock (zone_of_data zone)) low high types }
-    requires position { IfMore types (IsPositionOf (zone_of_data zone) low) }
-    ensures ok { IfOk result (HasEnds (IsClock (zone_of_data zone.entry)) reading) }
-    ensures err { IfErr result
-        (IsRefused IsOutsideFault (IsClock (zone_of_data zone.entry)) reading) }
-{
-    let mut ends = Ends::none();
-    let mut view = TransitionView::new(zone.transitions());
-    give_in_window(&mut ends, reading, &mut view, zone, types, low, high)?;
-    Ok(ends)
-}
-
-/// The ends of all that a reading has in its window, by the types that the clock has there.
-///
-/// # Errors
-///
-/// [`TzError::OutOfRange`] if a side of a jump is outside the years of an `i32`.
-fn ends_by_types<'a>(
-    reading: i64,
-    zone: &ZoneData<'a>,
-    types: WindowTypes<'a>,
-    low: i64,
-    high: i64,
-) -> Result<Ends<'a>, TzError>
-    requires searchable { IsSearchable (zone_of_data zone.now) reading low high }
-    requires types { AreTypesIn (IsClock (zone_of_data zone.now)) low high types }
-    requires position { IfMore types (IsPositionOf (zone_of_data zone.now) low) }
-    ensures ok { IfOk result (HasEnds (IsClock (zone_of_data zone.now)) reading) }
-    ensures err { IfErr result
-        (IsRefused IsOutsideFault (IsClock (zone_of_data zone.now)) reading) }
-{
-    if let WindowTypes::More(_) = types {
-        return ends_by_walk(reading, *zone, types, low, high);
-    }
-    let mut ends = Ends::none();
-    let mut view = TransitionView::new(zone.transitions());
-    give_in_window(&mut ends, reading, &mut view, *zone, types, low, high)?;
-    Ok(ends)
-}
-
-/// The entry that is meant of all that a reading has in its window. It stands apart, as a window
-/// seldom needs a walk.
+/// The entry that a choice means of those in a reading's window, by a walk of the changes there. It
+/// is cold: few windows need a walk.
 #[cold]
 fn meant_by_walk<'a>(
     reading: i64,
@@ -285,156 +164,6 @@ pub(super) fn meant_in<'a>(
     }
 }
 
-/// What a local time means in a zone: the instants at which clocks show it, and the jumps over it.
-#[derive(Clone, Copy, Debug, PartialEq, Eq)]
-pub enum Meaning {
-    /// Clocks never show it, and are not set forward over it. This is so if the zone has no clock
-    /// then.
-    Nothing,
-    /// Clocks show it once.
-    Once(DateTime),
-    /// Clocks show it twice, as when they are set back.
-    Twice {
-        /// The earlier date time.
-        first: DateTime,
-        /// The later one.
-        last: DateTime,
-    },
-    /// Clocks are set forward over it. Both sides have the Unix time of the jump, and the
-    /// nanoseconds of the local time.
-    Skipped {
-        /// The date time that the clock would have shown without the jump.
-        before_transition: DateTime,
-        /// The date time that the clock shows.
-        after_transition: DateTime,
-    },
-    /// Any other list, as of a jump and a date time, by the number of its entries.
-    /// [`DateTime::find`] returns them.
-    More(usize),
-}
-
-/// What fields mean in a zone.
-fn meaning_in(fields: &Fields, zone: &ZoneData<'_>) -> Result<Meaning, TzError>
-    ensures ok { IfOk result (HasMeaning (zone_of_data zone.now) fields.now) }
-    ensures outcome { IsOutcome (λ e. e) ⊥ (zone_of_data zone.now) fields.now result }
-{
-    fields.check()?;
-    let reading = fields.reading();
-    let (low, high) = window_of(zone, reading);
-    let types = types_of_window(zone, low, high);
-    let ends = ends_by_types(reading, zone, types, low, high)?;
-    let Some(first) = ends.first else {
-        return Ok(Meaning::Nothing);
-    };
-    let Some(last) = ends.last else {
-        return Ok(Meaning::Nothing);
-    };
-    match first {
-        Entry::Shown(unix_time, local_time_type) if ends.count == 1 => {
-            let date_time = DateTime::of_fields(fields, *local_time_type, unix_time);
-            Ok(Meaning::Once(date_time))
-        }
-        Entry::Jump(unix_time, before, after) if ends.count == 1 => {
-            let before_transition = DateTime::shown_by(unix_time, fields.nanoseconds, *before)?;
-            let after_transition = DateTime::shown_by(unix_time, fields.nanoseconds, *after)?;
-            Ok(Meaning::Skipped {
-                before_transition,
-                after_transition,
-            })
-        }
-        Entry::Shown(unix_time, before) if ends.count == 2 => match last {
-            Entry::Shown(later, after) => {
-                let first = DateTime::of_fields(fields, *before, unix_time);
-                let last = DateTime::of_fields(fields, *after, later);
-                Ok(Meaning::Twice { first, last })
-            }
-            Entry::Jump(..) => Ok(Meaning::More(2)),
-        },
-        _ => Ok(Meaning::More(ends.count)),
-    }
-}
-
-impl DateTime {
-    ghost use Rattle.tz_base.specs.Fields.{fields_of};
-    ghost use Rattle.tz_zone.specs.ZoneRef.{zone_of};
-    ghost use Rattle.tz.specs.Outcomes.{IsOutcome};
-    ghost use Rattle.tz.specs.LocalMeanings.{HasMeaning};
-
-    /// What the fields mean in the zone: how often clocks show them, and whether they are set
-    /// forward over them. This call does not allocate.
-    ///
-    /// The month is from 1 to 12, the day of the month from 1, the hour from 0 to 23, the minute
-    /// from 0 to 59, the second from 0 to 60 and the nanoseconds below 10^9.
-    ///
-    /// # Errors
-    ///
-    /// Those of [`DateTime::find`] but `Memory`.
-    pub fn meaning(
-        year: i32,
-        month: u8,
-        month_day: u8,
-        hour: u8,
-        minute: u8,
-        second: u8,
-        nanoseconds: u32,
-        time_zone_ref: TimeZoneRef<'_>,
-    ) -> Result<Meaning, TzError>
-        ensures ok { IfOk result (HasMeaning (zone_of time_zone_ref.entry)
-            (fields_of year month month_day hour minute second nanoseconds)) }
-        ensures outcome { IsOutcome (λ e. e) ⊥ (zone_of time_zone_ref.entry)
-            (fields_of year month month_day hour minute second nanoseconds) result }
-    {
-        let fields = Fields::new(year, month, month_day, hour, minute, second, nanoseconds);
-        meaning_in(&fields, &plain(&time_zone_ref))
-    }
-
-    /// What the local time means in the zone. The `UtcDateTime` is read as a local time, without an
-    /// offset. This call does not allocate.
-    ///
-    /// # Errors
-    ///
-    /// [`TzError::OutOfRange`] as for [`DateTime::find`].
-    pub fn meaning_local(
-        local: UtcDateTime,
-        time_zone_ref: TimeZoneRef<'_>,
-    ) -> Result<Meaning, TzError>
-        ensures ok { IfOk result (HasMeaning (zone_of time_zone_ref.entry) local) }
-        ensures outcome { IsOutcome (λ e. e) ⊥ (zone_of time_zone_ref.entry) local result }
-    {
-        meaning_in(local.fields(), &plain(&time_zone_ref))
-    }
-}
-
-/// Which date time a local time means if clocks are set forward over it or show it more than once.
-///
-/// | choice | in a fold, where they show it twice | in a gap, where they skip it |
-/// |---|---|---|
-/// | `Compatible` | the first instant | as much later as clocks are set forward: 2:30 becomes 3:30 |
-/// | `Earlier` | the first instant | as much earlier: 2:30 becomes 1:30 |
-/// | `Later` | the last instant | as much later: 2:30 becomes 3:30 |
-/// | `Reject` | none | none |
-///
-/// If clocks show a local time exactly once and are not set forward over it, all choices mean that.
-/// If they do both, as when they are set back soon after, `Compatible` means the first instant at
-/// which they show it, `Earlier` and `Later` the first and the last entry of
-/// [`DateTime::find`](super::DateTime::find), and `Reject` none.
-#[derive(Clone, Copy, Debug, Default, Hash, PartialEq, Eq)]
-pub enum Disambiguation {
-    /// The first instant at which clocks show it, or, in a gap, as much later as clocks are set
-    /// forward: what calendars do. (RFC 5545, 3.3.5)
-    #[default]
-    Compatible,
-    /// The first entry: an instant at which clocks show it, or, in a gap, as much earlier as clocks
-    /// are set forward.
-    Earlier,
-    /// The last entry: an instant at which clocks show it, or, in a gap, as much later as clocks
-    /// are set forward.
-    Later,
-    /// The only instant at which clocks show it, or none if there are several or if clocks are also
-    /// set forward over it.
-    Reject,
-}
-
 /// The instant at which the clock is looked up for a jump over the fields.
 fn lookup_instant(
     fields: &Fields,
@@ -458,7 +187,7 @@ fn shown_apart(unix_time: i64, nanoseconds: u32, zone: &ZoneData<'_>) -> Result<
     ensures ok { IfOk result (ShowsByClock (zone_of_data zone.now) unix_time nanoseconds) }
     ensures err { IfErr result (IsClockFault (zone_of_data zone.now) unix_time nanoseconds) }
 {
-    from_timespec(unix_time, nanoseconds, zone)
+    DateTime::shown_by_clock(unix_time, nanoseconds, zone)
 }
 
 /// The one date time that valid fields mean by a choice, if there is one. `reading` is that of the

@@ -10,13 +10,14 @@ ghost use Rattle.tz.specs.Lists.{found_of};
 ghost use Rattle.tz.specs.Outcomes.{AreLooksOf, IsOutcome};
 ghost use Rattle.tz.specs.declared.datetime.found.FoundDateTimeKind.{FoundDateTimeKind};
 
-use super::entry_takers::{DateTimeList, SlotWriter};
+use super::entry_takers::DateTimeList;
 use super::gaps_and_folds::search;
+use super::slots::SlotWriter;
 use super::{DateTime, FoundDateTimeKind, FoundDateTimeList, FoundDateTimeListRefMut, UtcDateTime};
 use std::alloc::Allocator;
 use tz_base::error::TzError;
 use tz_base::fields::Fields;
-use tz_zone::inner::{TransitionView, ZoneData, plain};
+use tz_zone::inner::{TransitionView, ZoneData};
 use tz_zone::timezone::TimeZoneRef;
 
 /// A search that failed, and the buffer as it left it.

@@ -1,7 +1,7 @@
 -- A meaning is that of a list, and nothing refuses it.
-use Rattle.tz.proofs.Common.{rules, SFits, to_z-of_z, w32, Result, Ok, Err, List, IfOk, IfErr, Zone, Fields, TzError, IsClock, IsValid, IsFound, EachCanBeMade, IsFindFault, HasMeaning, IsOutcome, FoundDateTimeKind, fields_of}
+use Rattle.tz.proofs.Common.{rules, SFits, to_z-of_z, w32, Result, Ok, Err, List, IfOk, Zone, Fields, TzError, IsClock, IsValid, IsFound, EachCanBeMade, HasMeaning, IsOutcome, FoundDateTimeKind, fields_of}
 use Rattle.tz_zone.specs.ZoneRef.{zone_of}
-use Rattle.tz.specs.declared.datetime.disambiguation.Meaning.{Meaning}
+use Rattle.tz.specs.declared.datetime.meaning.Meaning.{Meaning}
 use Rattle.tz.proofs.UniqueResults.{no_fault_where_made}
 use Rattle.tz.proofs.laws.found_lists_exist.Goals as goal
 

@@ -1,5 +1,5 @@
 -- Clocks that are set forward have two types, and both sides of a jump are near the fields.
-use Rattle.tz.proofs.Common.{arith, ints, refl, ◌≡◌, subst, sym, ◌∙◌, ap, pos, negsuc, ℤ, ◌+ℤ◌, ◌-ℤ◌, ◌*◌, ◌+◌, ◌≤ℤ◌, ◌<ℤ◌, FitsSigned, w32, Fields, IsValid, IsClock, LocalTimeType, reading, Skipped, IsFoundBy, All-contains, day_in_year, first_day_bounds}
+use Rattle.tz.proofs.Common.{arith, ints, subst, sym, ◌∙◌, ap, pos, negsuc, ℤ, ◌-ℤ◌, ◌*◌, ◌+◌, ◌≤ℤ◌, FitsSigned, w32, Fields, IsValid, IsClock, LocalTimeType, reading, Skipped, IsFoundBy, All-contains, day_in_year, first_day_bounds}
 use Rattle.tz_zone.specs.ZoneRef.{zone_of}
 use Rattle.tz_rule.proofs.UtcYears.{year_fits}
 use Rattle.tz.proofs.laws.jumps_are_changes.Goals as goal

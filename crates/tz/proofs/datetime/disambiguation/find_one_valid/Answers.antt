@@ -1,8 +1,8 @@
 -- What is meant is the date time of the entry that is meant, or what the clock shows at another instant.
 use Rattle.tz.proofs.Common.{arith, ◌≡◌, ◌∙◌, ints, inr, sym, inl, ap, to_z-of_z, rules, w64, IsClock, Some, Option, err_from_is_err_and, zone_of_data, Shown, Jump, entry_of, option_map}
-use Rattle.tz.specs.Ends.{entry_meant}
-use Rattle.tz.specs.declared.datetime.disambiguation.Entry.{Entry as LentEntry}
-use Rattle.tz.proofs.Ends.{each_made, jump_fault, jump_meant, none_meant, outside_refused, shown_meant}
+use Rattle.tz.specs.EntryEnds.{entry_meant}
+use Rattle.tz.specs.declared.datetime.entry_ends.Entry.{Entry as BorrowedEntry}
+use Rattle.tz.proofs.EntryEnds.{each_made, jump_fault, jump_meant, none_meant, outside_refused, shown_meant}
 use Rattle.tz.proofs.datetime.disambiguation.find_one_valid.Goals as goal
 
 pub returns-in_err-meant_in-clause-err : goal.returns-in_err-meant_in-clause-err

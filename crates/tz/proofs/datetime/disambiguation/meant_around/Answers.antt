@@ -1,7 +1,7 @@
 -- The jump alone, one shown alone, or both.
 use Rattle.tz.proofs.Common.{arith, refl, ◌≡◌, subst, ints, [], ap, to_z-of_z, ◌∷◌, rules, w64, Some, ◌<ℤ◌, ◌≤ℤ◌, err_from_is_err_and, Shown, Jump, Entry, All-nil, IsEntryInside, All-cons, entry_of}
 use Rattle.tz.proofs.ChangeEntries.{both, first_alone, from_since, jump_alone, second_alone, skipped}
-use Rattle.tz.proofs.Ends.{one_shown_meant}
+use Rattle.tz.proofs.EntryEnds.{one_shown_meant}
 use Rattle.tz.proofs.datetime.disambiguation.meant_around.Goals as goal
 use Rattle.tz.proofs.datetime.disambiguation.meant_around.Goals.{in-Compatible, in-Earlier, in-Later, in-Reject, in-Compatible-disambiguation, in-Earlier-disambiguation, in-Later-disambiguation, in-Reject-disambiguation}
 

@@ -1,6 +1,6 @@
 -- The clock has one type in the window, or two with a change between them, or a walk finds what is meant.
 use Rattle.tz.proofs.Common.{◌≡◌, [], to_z-of_z, ◌∷◌, rules, w64, ◌-ℤ◌, zone_of_data, Shown, IfErr-weaker, All-nil, IsEntryInside, All-cons, HasTwoTypes, IfOk-weaker}
-use Rattle.tz.proofs.Ends.{one_shown_meant}
+use Rattle.tz.proofs.EntryEnds.{one_shown_meant}
 use Rattle.tz.proofs.EntryWalks.{entries_once}
 use Rattle.tz.proofs.datetime.disambiguation.meant_in.Goals as goal
 
