@@ -9,7 +9,7 @@ use denote.Plain.{uint_vals, uint_Tells, uint_Lawful}
 use denote.Signature.{Slot, plain, named_lft, types_at}
 use denote.Signed.{sint_vals, sint_Tells, sint_Lawful}
 use denote.Triple.End.{Kepts}
-use denote.Triple.Walked.{Stays, AllGo, Goes, stay_dropped, Goes-dropped, Goes-spent_slice}
+use denote.Triple.Walked.{Stays, AllGo, Goes, Silent, stay_dropped, Goes-dropped, Goes-spent_slice}
 use Rattle.tz_zone.specs.contracts.timezone.zone_ref.TimeZoneRef as zone
 use Rattle.tz_zone.proofs.timezone.zone_ref.TimeZoneRef.TheLaws as zone_laws
 use Rattle.tz.specs.BorrowedSlots.{slot_row}
@@ -38,14 +38,8 @@ kept = (no, (yes, (yes, (yes, (yes, (yes, (yes, (yes, (yes, tt)))))))))
 -- nothing is left of them: the slots are passed on, and the rest is not needed
 abbrev pub stayed : Stays params kept
 stayed =
-    let b = stay_dropped byte yes in (
-      stay_dropped lent_slots no,
-      (
-        stay_dropped year
-            yes,
-        (b, (b, (b, (b, (b, (stay_dropped nanoseconds yes, (stay_dropped zone_slot yes, tt))))))),
-      ),
-    )
+    let b = stay_dropped byte yes in let y = stay_dropped year yes in let n = stay_dropped nanoseconds yes in
+    (stay_dropped borrowed_slots no, (y, (b, (b, (b, (b, (b, (n, (stay_dropped zone_slot yes, tt)))))))))
 
 -- each has one machine value, which its value determines
 abbrev pub spelled : (κs : Lfts 2) → Spells (types_at params κs)
@@ -56,58 +50,25 @@ spelled κs =
 
 pub spelled_tells : (κs : Lfts 2) → Tellss (types_at params κs) (Ises (types_at params κs)) (spelled κs)
 spelled_tells κs =
-    let b = uint_Tells w8 in (
-      mut_slice_Tells (named 0) κs.0 slot_row,
-      (
-        sint_Tells
-            w32,
-        (b, (b, (b, (b, (b, (uint_Tells w32, ((zone_laws.lowers (named_lft 2 1 tt κs)).val_is, tt))))))),
-      ),
-    )
+    let s = mut_slice_Tells (named 0) κs.0 slot_row in let b = uint_Tells w8 in
+    let z = (zone_laws.lowers (named_lft 2 1 tt κs)).val_is in
+    (s, (sint_Tells w32, (b, (b, (b, (b, (b, (uint_Tells w32, (z, tt)))))))))
 
 module _ {M : Type 1} {𝓤 : Ura M} (𝓛 : Logic 𝓤) where
+  dropped : (s : Slot 2) → Silent 𝓛 2 s yes → Goes 𝓛 2 s yes (stay_dropped s yes)
+  dropped s silent = Goes-dropped 𝓛 2 s yes silent
+
   pub gone : AllGo 𝓛 2 params kept stayed
   gone =
-      let b : Goes 𝓛 2 byte yes (stay_dropped byte yes) = Goes-dropped 𝓛 2 byte yes (λ κs x w. refl) in (
-        Goes-spent_slice 𝓛 2 (0 ∷ []) tt (plain (λ _. slot_row)),
-        (
-          Goes-dropped 𝓛 2 year yes (λ κs x w. refl),
-          (
-            b,
-            (
-              b,
-              (
-                b,
-                (
-                  b,
-                  (
-                    b,
-                    (
-                      Goes-dropped 𝓛 2 nanoseconds yes (λ κs x w. refl),
-                      (
-                        Goes-dropped 𝓛 2 zone_slot yes
-                            (λ κs x w. refl),
-                        tt,
-                      ),
-                    ),
-                  ),
-                ),
-              ),
-            ),
-          ),
-        ),
-      )
+      let s = Goes-spent_slice 𝓛 2 (0 ∷ []) tt (plain (λ _. slot_row)) in
+      let y = dropped year (λ κs x w. refl) in
+      let b = dropped byte (λ κs x w. refl) in
+      let n = dropped nanoseconds (λ κs x w. refl) in
+      let z = dropped zone_slot (λ κs x w. refl) in
+      (s, (y, (b, (b, (b, (b, (b, (n, (z, tt)))))))))
 
   pub lawful : (κs : Lfts 2) → Lawfuls 𝓛 (types_at params κs)
   lawful κs =
-      let b = uint_Lawful 𝓛 w8 in (
-        mut_slice_Lawful 𝓛 (named 0) κs.0 slot_row,
-        (
-          sint_Lawful 𝓛
-              w32,
-          (
-            b,
-            (b, (b, (b, (b, (uint_Lawful 𝓛 w32, ((zone_laws.the_row_laws (named_lft 2 1 tt κs)).lawful 𝓛, tt)))))),
-          ),
-        ),
-      )
+      let s = mut_slice_Lawful 𝓛 (named 0) κs.0 slot_row in let b = uint_Lawful 𝓛 w8 in
+      let z = (zone_laws.the_row_laws (named_lft 2 1 tt κs)).lawful 𝓛 in
+      (s, (sint_Lawful 𝓛 w32, (b, (b, (b, (b, (b, (uint_Lawful 𝓛 w32, (z, tt)))))))))

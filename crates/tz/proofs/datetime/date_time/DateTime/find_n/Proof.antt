@@ -32,6 +32,7 @@ find_n_spec 𝓤 𝓛 𝓜 𝓡 wired =
     spelled_tells (λ κs qs bounds a _ are.
     let fields = fields_of a.1.0 a.1.1.0 a.1.1.1.0 a.1.1.1.1.0 a.1.1.1.1.1.0 a.1.1.1.1.1.1.0 a.1.1.1.1.1.1.1.0 in
     let words = valss (types_at params κs) (spelled κs) a in let z : G.Ghost = ((κs, qs, bounds, a, words), tt) in
+    let left : Lasts f.ended κs a = (tt, (tt, (tt, (tt, (tt, (tt, (tt, (tt, (tt, tt))))))))) in
     let End : Val → SProp 𝓤 = W.post ((κs, qs, bounds, a, words), tt) in
     let typed_all = all_Typed 𝓛 (types_at params κs) (lawful 𝓛 κs) a words are in let buf_typed = typed_all.0 in
     let zone_typed = typed_all.1.1.1.1.1.1.1.1.0 in
@@ -60,10 +61,8 @@ find_n_spec 𝓤 𝓛 𝓜 𝓡 wired =
     (λ ok. heard_first ! _ _ (λ same'. heard_first ! _ _ (λ untouched. heard ! _ (λ outcome.
     split ! $ move ! (1 ∷ []) $ by_result r
     -- [the list; the tokens]
-    (λ list e. rewrite ! 0 (λ (x : Result Found Refused). ‵ ((result.the_row (found_row κs) (refused_row κs)).own_val x
-    (v ∷ []))) e refl $
-    ok_taken (found_row κs) (refused_row κs) ! list_laws.lowered (list_laws.lowers (named_lft 2 0 tt κs)).val_is list v
-    (λ is owned.
+    (λ list e. ok_taken (found_row κs) (refused_row κs) ! list_laws.lowered
+    (list_laws.lowers (named_lft 2 0 tt κs)).val_is list e v (λ is owned.
     let w : Val = list_laws.lowered list in let out : Result Found TzError = Ok list in
     let typed = (((list_laws.the_row_laws (named_lft 2 0 tt κs)).lawful 𝓛).typed list _ owned).0 in
     let ok_typed = variant_typed (lone (found_row κs).mir) 0 w (lit< tt) typed in
@@ -80,18 +79,15 @@ find_n_spec 𝓤 𝓛 𝓜 𝓡 wired =
     (ok_of 𝓛 (found_row κs) fault.the_row list w) $
     use0 𝓛 (‵ (RestsIfInvalid reference_of a.0 fields out)) (ends_in 𝓛 (Array slot_row 0) _ _ _ _ (if_ok_at _ e same)
     (λ n. refl) [] tt) $
-    suffices ! _ (ends_at 𝓛 f.ended stayed c ((κs, qs, bounds, a, words), tt) (live 0 (of_list (w ∷ []))) out
-    (tt, (tt, (tt, (tt, (tt, (tt, (tt, (tt, (tt, tt)))))))))
-    (tt, (tt, (tt, (tt, (tt, (tt, (tt, (tt, (tt, tt)))))))))) $
+    suffices ! _ (ends_at 𝓛 f.ended stayed c ((κs, qs, bounds, a, words), tt) (live 0 (of_list (w ∷ [])))
+    out left left) $
     nothing ! $ nothing ! $ fjoin ! $ nothing ! $ fjoin ! $ nothing ! $ fjoin ! $ nothing ! $ fjoin ! $ nothing ! $
     fjoin ! $ nothing ! $ fjoin ! $ nothing ! $ fjoin ! $ nothing ! $ fjoin ! $ nothing ! $ fjoin ! $ move !
     (3 ∷ 0 ∷ 2 ∷ []) $ group ! 3 $ frame ! $ frame ! $
     by ! (fact_and 𝓤 (if_ok_at _ e same) (fact_and 𝓤 (if_ok_at _ e ok)
     (fact_last 𝓤 (ok_outcome e outcome))))))
-    (λ refused e. rewrite ! 0 (λ (x : Result Found Refused). ‵
-    ((result.the_row (found_row κs) (refused_row κs)).own_val x (v ∷ []))) e refl $
-    err_taken (found_row κs) (refused_row κs) ! (refused_laws.lowered (named_lft 2 0 tt κs))
-    (refused_laws.lowers (named_lft 2 0 tt κs)).val_is refused v (λ is owned.
+    (λ refused e. err_taken (found_row κs) (refused_row κs) ! (refused_laws.lowered (named_lft 2 0 tt κs))
+    (refused_laws.lowers (named_lft 2 0 tt κs)).val_is refused e v (λ is owned.
     let w : Val = refused_laws.lowered (named_lft 2 0 tt κs) refused in
     let u : Val = fault_laws.lowered refused.fault in let out : Result Found TzError = Err refused.fault in
     let typed = (((refused_laws.the_row_laws (named_lft 2 0 tt κs)).lawful 𝓛).typed refused _ owned).0 in
@@ -116,9 +112,8 @@ find_n_spec 𝓤 𝓛 𝓜 𝓡 wired =
     rewrite ! 0 (λ (γ : GName). ‵ (fres γ ((Array slot_row 0).coded.code refused.buf.now))) (if_err_at _ e same') refl $
     use1 𝓛 (‵ (RestsIfInvalid reference_of a.0 fields out)) (ends_as 𝓛 (Array slot_row 0) _ _ _ refused.buf.now
     (λ w. tt) (if_err_at _ e untouched)) $
-    suffices ! _ (ends_at 𝓛 f.ended stayed c ((κs, qs, bounds, a, words), tt) (live 1 (of_list (u ∷ []))) out
-    (tt, (tt, (tt, (tt, (tt, (tt, (tt, (tt, (tt, tt)))))))))
-    (tt, (tt, (tt, (tt, (tt, (tt, (tt, (tt, (tt, tt)))))))))) $
+    suffices ! _ (ends_at 𝓛 f.ended stayed c ((κs, qs, bounds, a, words), tt) (live 1 (of_list (u ∷ [])))
+    out left left) $
     nothing ! $ nothing ! $ fjoin ! $ nothing ! $ fjoin ! $ nothing ! $ fjoin ! $ nothing ! $ fjoin ! $ nothing ! $
     fjoin ! $ nothing ! $ fjoin ! $ nothing ! $ fjoin ! $ nothing ! $ fjoin ! $ nothing ! $ fjoin ! $ move !
     (3 ∷ 0 ∷ 2 ∷ []) $ group ! 3 $ frame ! $ frame ! $

@@ -30,25 +30,14 @@ abbrev found_row : Lfts 2 → RattleType
 found_row κs = Tuple (found_rows κs)
 
 abbrev found_laws : (κs : Lfts 2) → AllLaws (found_rows κs)
-found_laws κs = (
-  list_laws.the_row_laws (named_lft 2 0 tt κs),
-  (
-    of_field u64-field u64-laws refl (copy_shared u64-field u64-copy),
-    tt,
-  ),
-)
+found_laws κs =
+    let count = of_field u64-field u64-laws refl (copy_shared u64-field u64-copy) in
+    (list_laws.the_row_laws (named_lft 2 0 tt κs), (count, tt))
 
 abbrev found_lowers : (κs : Lfts 2) → Lowered (tuple_type (found_rows κs))
-found_lowers κs = tuple_lowers (found_rows κs) (found_laws κs) (
-  record {
-    val = list_laws.lowered;
-    tells = (list_laws.lowers (named_lft 2 0 tt κs)).val_is;
-  },
-  (
-    field_told u64-field u64-laws,
-    tt,
-  ),
-)
+found_lowers κs =
+    let count = field_told u64-field u64-laws in let tells = (list_laws.lowers (named_lft 2 0 tt κs)).val_is in
+    tuple_lowers (found_rows κs) (found_laws κs) (record { val = list_laws.lowered; tells = tells }, (count, tt))
 
 abbrev refused_row : Lfts 2 → RattleType
 refused_row κs = refused.the_row (named_lft 2 0 tt κs)
@@ -61,6 +50,7 @@ find_n_counted_spec 𝓤 𝓛 𝓜 𝓡 wired =
     spelled_tells (λ κs qs bounds a _ are.
     let fields = fields_of a.1.0 a.1.1.0 a.1.1.1.0 a.1.1.1.1.0 a.1.1.1.1.1.0 a.1.1.1.1.1.1.0 a.1.1.1.1.1.1.1.0 in
     let words = valss (types_at params κs) (spelled κs) a in let z : G.Ghost = ((κs, qs, bounds, a, words), tt) in
+    let left : Lasts f.ended κs a = (tt, (tt, (tt, (tt, (tt, (tt, (tt, (tt, (tt, tt))))))))) in
     let End : Val → SProp 𝓤 = W.post ((κs, qs, bounds, a, words), tt) in
     let typed_all = all_Typed 𝓛 (types_at params κs) (lawful 𝓛 κs) a words are in let buf_typed = typed_all.0 in
     let zone_typed = typed_all.1.1.1.1.1.1.1.1.0 in
@@ -91,9 +81,8 @@ find_n_counted_spec 𝓤 𝓛 𝓜 𝓡 wired =
     (λ at_most. heard_first ! _ _ (λ at_least_one. heard ! _ (λ none.
     split ! $ move ! (1 ∷ []) $ by_result r
     -- [the list; the tokens]
-    (λ list e. rewrite ! 0 (λ (x : Result Found Refused). ‵ ((result.the_row (found_row κs) (refused_row κs)).own_val x
-    (v ∷ []))) e refl $
-    ok_taken (found_row κs) (refused_row κs) ! (found_lowers κs).lowered (found_lowers κs).val_is list v (λ is owned.
+    (λ list e. ok_taken (found_row κs) (refused_row κs) ! (found_lowers κs).lowered (found_lowers κs).val_is list e v
+    (λ is owned.
     let w : Val = (found_lowers κs).lowered list in let out : Result Found TzError = Ok list in
     let typed = (((tuple_laws (found_rows κs) (found_laws κs)).lawful 𝓛).typed list _ owned).0 in
     let ok_typed = variant_typed (lone (found_row κs).mir) 0 w (lit< tt) typed in
@@ -110,9 +99,8 @@ find_n_counted_spec 𝓤 𝓛 𝓜 𝓡 wired =
     (ok_of 𝓛 (found_row κs) fault.the_row list w) $
     use0 𝓛 (‵ (RestsIfInvalid (λ counted. reference_of counted.0) a.0 fields out))
     (ends_in 𝓛 (Array slot_row 0) _ _ _ _ (if_ok_at _ e same) (λ n. refl) [] tt) $
-    suffices ! _ (ends_at 𝓛 f.ended stayed c ((κs, qs, bounds, a, words), tt) (live 0 (of_list (w ∷ []))) out
-    (tt, (tt, (tt, (tt, (tt, (tt, (tt, (tt, (tt, tt)))))))))
-    (tt, (tt, (tt, (tt, (tt, (tt, (tt, (tt, (tt, tt)))))))))) $
+    suffices ! _ (ends_at 𝓛 f.ended stayed c ((κs, qs, bounds, a, words), tt) (live 0 (of_list (w ∷ [])))
+    out left left) $
     nothing ! $ nothing ! $ fjoin ! $ nothing ! $ fjoin ! $ nothing ! $ fjoin ! $ nothing ! $ fjoin ! $ nothing ! $
     fjoin ! $ nothing ! $ fjoin ! $ nothing ! $ fjoin ! $ nothing ! $ fjoin ! $ nothing ! $ fjoin ! $ move !
     (3 ∷ 0 ∷ 2 ∷ []) $ group ! 3 $ frame ! $ frame ! $
@@ -120,10 +108,8 @@ find_n_counted_spec 𝓤 𝓛 𝓜 𝓡 wired =
     (fact_and 𝓤 (ok_outcome e outcome)
     (fact_and 𝓤 (if_ok_at _ e at_most)
     (fact_and 𝓤 (if_ok_at _ e at_least_one) (fact_last 𝓤 (if_ok_at _ e none)))))))))
-    (λ refused e. rewrite ! 0 (λ (x : Result Found Refused). ‵
-    ((result.the_row (found_row κs) (refused_row κs)).own_val x (v ∷ []))) e refl $
-    err_taken (found_row κs) (refused_row κs) ! (refused_laws.lowered (named_lft 2 0 tt κs))
-    (refused_laws.lowers (named_lft 2 0 tt κs)).val_is refused v (λ is owned.
+    (λ refused e. err_taken (found_row κs) (refused_row κs) ! (refused_laws.lowered (named_lft 2 0 tt κs))
+    (refused_laws.lowers (named_lft 2 0 tt κs)).val_is refused e v (λ is owned.
     let w : Val = refused_laws.lowered (named_lft 2 0 tt κs) refused in
     let u : Val = fault_laws.lowered refused.fault in let out : Result Found TzError = Err refused.fault in
     let typed = (((refused_laws.the_row_laws (named_lft 2 0 tt κs)).lawful 𝓛).typed refused _ owned).0 in
@@ -148,9 +134,8 @@ find_n_counted_spec 𝓤 𝓛 𝓜 𝓡 wired =
     rewrite ! 0 (λ (γ : GName). ‵ (fres γ ((Array slot_row 0).coded.code refused.buf.now))) (if_err_at _ e same') refl $
     use1 𝓛 (‵ (RestsIfInvalid (λ counted. reference_of counted.0) a.0 fields out))
     (ends_as 𝓛 (Array slot_row 0) _ _ _ refused.buf.now (λ w. tt) (if_err_at _ e untouched)) $
-    suffices ! _ (ends_at 𝓛 f.ended stayed c ((κs, qs, bounds, a, words), tt) (live 1 (of_list (u ∷ []))) out
-    (tt, (tt, (tt, (tt, (tt, (tt, (tt, (tt, (tt, tt)))))))))
-    (tt, (tt, (tt, (tt, (tt, (tt, (tt, (tt, (tt, tt)))))))))) $
+    suffices ! _ (ends_at 𝓛 f.ended stayed c ((κs, qs, bounds, a, words), tt) (live 1 (of_list (u ∷ [])))
+    out left left) $
     nothing ! $ nothing ! $ fjoin ! $ nothing ! $ fjoin ! $ nothing ! $ fjoin ! $ nothing ! $ fjoin ! $ nothing ! $
     fjoin ! $ nothing ! $ fjoin ! $ nothing ! $ fjoin ! $ nothing ! $ fjoin ! $ nothing ! $ fjoin ! $ move !
     (3 ∷ 0 ∷ 2 ∷ []) $ group ! 3 $ frame ! $ frame ! $
