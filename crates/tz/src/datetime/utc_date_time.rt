@@ -3,9 +3,9 @@
 ghost use Rattle.std.specs.Prelude.{◌≡◌, MatchBool, ◌<◌, ◌↔◌, pos, negsuc, ◌^◌, ◌+ℤ◌, ◌-ℤ◌, ◌≤ℤ◌, IfOk};
 ghost use Rattle.std.specs.Prelude.{IfErr, IsSome, IfSome};
 ghost use Rattle.std.specs.Duration.{as_nanos};
-ghost use Rattle.tz_base.specs.Fields.{IsReading, IsTimespec, total_nanoseconds_of};
+ghost use Rattle.tz_base.specs.Fields.{IsReading, IsTimespec, IsValid, total_nanoseconds_of};
 ghost use Rattle.tz.specs.DateTimes.{IsPastTheEnd, IsUtc, IsUtcTotal, IsNearTotal, IsForwards};
-ghost use Rattle.tz.specs.DateTimes.{IsBackwards};
+ghost use Rattle.tz.specs.DateTimes.{IsBackwards, IsUtcFault};
 
 use super::DateTime;
 use std::fmt;
@@ -93,6 +93,21 @@ pub(crate) const fn is_past_the_end(fields: &Fields) -> bool
         && fields.second == 60
 }
 
+/// Why fields make no date time. It is cold, so that the usual path has one exit.
+#[cold]
+const fn fields_fault(fields: &Fields) -> TzError
+    requires { IsValid fields.now → IsPastTheEnd fields.now }
+    ensures { IsUtcFault fields.now result }
+{
+    if is_past_the_end(fields) {
+        return TzError::OutOfRange;
+    }
+    match fields.check() {
+        Err(error) => TzError::DateTime(error),
+        Ok(()) => TzError::OutOfRange,
+    }
+}
+
 impl UtcDateTime {
     ghost use Rattle.std.specs.Prelude.{◌≡◌, ◌<◌, pos, ◌+ℤ◌, ◌-ℤ◌, OnOk, IfOk, IfErr, IsSome, IfSome, ◌↔◌};
     ghost use Rattle.std.specs.Duration.{as_nanos};
@@ -178,13 +193,10 @@ impl UtcDateTime {
             nanoseconds)) }
     {
         let fields = Fields::new(year, month, month_day, hour, minute, second, nanoseconds);
-        if is_past_the_end(&fields) {
-            return Err(TzError::OutOfRange);
+        match fields.check() {
+            Ok(()) if !is_past_the_end(&fields) => Ok(UtcDateTime::of_fields(fields)),
+            _ => Err(fields_fault(&fields)),
         }
-        if let Err(error) = fields.check() {
-            return Err(TzError::DateTime(error));
-        }
-        Ok(UtcDateTime::of_fields(fields))
     }
 
     /// The date time with fields that are known to have one.
