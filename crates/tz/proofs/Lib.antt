@@ -7,6 +7,7 @@ pub mod ClockTypes
 pub mod ReadingWindows
 pub mod EntryWalks
 pub mod ChangeEntries
+pub mod FoundInPlace
 pub mod WalkLooks
 pub mod PromisedLists
 pub mod CivilFields

@@ -22,6 +22,7 @@ pub mod UtcText
 pub mod PrintedBytes
 pub mod UtcConstants
 pub mod Lists
+pub mod InPlace
 pub mod BorrowedSlots
 pub mod SlotEquality
 pub mod Choices

@@ -5,6 +5,7 @@ pub use crate::datetime::date_time::fields_of;
 pub use crate::datetime::disambiguation::find_one;
 pub use crate::datetime::find::find_fields;
 pub use crate::datetime::gaps_and_folds::{types_of_window, window_of};
+pub use crate::datetime::in_place::{FoundDateTimes, find_in_place};
 pub use crate::datetime::slots::{Slot, find_into};
 pub use crate::datetime::utc_date_time::utc_fields_of;
 pub use crate::parse::{read_digits, value_of};

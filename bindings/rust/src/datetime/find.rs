@@ -3,39 +3,43 @@
 use super::{DateTime, FoundDateTimeKind, UtcDateTime};
 use crate::error::TzError;
 use crate::proved::tz::datetime::FoundDateTimeList as FoundList;
-use crate::proved::tz::inner::find_fields;
+use crate::proved::tz::inner::{FoundDateTimes, ZoneData, find_in_place};
 use crate::proved::tz_base::fields::Fields;
-use crate::proved::tz_zone::inner::plain;
 use crate::shim::alloc::Global;
 use crate::timezone::TimeZoneRef;
 use alloc::vec::{self, Vec};
 use core::{fmt, slice};
 
 /// The date times that a search found, by rising Unix time: the list that [`DateTime::find`] returns. It may be empty.
-#[derive(PartialEq, Eq)]
-pub struct FoundDateTimeList(FoundList<Global>);
+///
+/// One date time is mostly held in the list itself, without an allocation; lists are equal if their entries are.
+pub struct FoundDateTimeList(FoundDateTimes<Global>);
 
 impl FoundDateTimeList {
     /// The date time, if exactly one was found and no jump, and otherwise `None`.
     #[must_use]
+    #[inline]
     pub fn unique(&self) -> Option<DateTime> {
         self.0.unique()
     }
 
     /// The earliest date time; of a jump the side before it. `None` if nothing was found.
     #[must_use]
+    #[inline]
     pub fn earliest(&self) -> Option<DateTime> {
         self.0.earliest()
     }
 
     /// The latest date time; of a jump the side after it. `None` if nothing was found.
     #[must_use]
+    #[inline]
     pub fn latest(&self) -> Option<DateTime> {
         self.0.latest()
     }
 
     /// How many were found.
     #[must_use]
+    #[inline]
     pub fn len(&self) -> usize {
         self.as_slice().len()
     }
@@ -48,22 +52,40 @@ impl FoundDateTimeList {
 
     /// What was found, in order.
     #[must_use]
+    #[inline]
     pub fn as_slice(&self) -> &[FoundDateTimeKind] {
-        &self.0.found
+        match &self.0 {
+            FoundDateTimes::Once(found) => slice::from_ref(found),
+            FoundDateTimes::Listed(list) => &list.found,
+        }
     }
 
     /// What was found, in order, one after another.
+    #[inline]
     pub fn iter(&self) -> slice::Iter<'_, FoundDateTimeKind> {
         self.as_slice().iter()
     }
 
-    /// What was found, in order.
+    /// What was found, in order. Where the list holds one date time itself, this allocates, and the program aborts if out of memory, as with
+    /// [`Vec`]; [`as_slice`](Self::as_slice) does not.
     #[must_use]
     pub fn into_inner(self) -> Vec<FoundDateTimeKind> {
-        self.0.into_inner().into_std()
+        match self.0 {
+            FoundDateTimes::Once(found) => alloc::vec![found],
+            FoundDateTimes::Listed(list) => list.into_inner().into_std(),
+        }
     }
 }
 
+impl PartialEq for FoundDateTimeList {
+    fn eq(&self, other: &Self) -> bool {
+        self.as_slice() == other.as_slice()
+    }
+}
+
+impl Eq for FoundDateTimeList {}
+
+/// Allocates as [`FoundDateTimeList::into_inner`] does.
 impl IntoIterator for FoundDateTimeList {
     type Item = FoundDateTimeKind;
     type IntoIter = vec::IntoIter<FoundDateTimeKind>;
@@ -84,7 +106,7 @@ impl<'a> IntoIterator for &'a FoundDateTimeList {
 
 impl Default for FoundDateTimeList {
     fn default() -> Self {
-        FoundDateTimeList(FoundList::new_in(Global))
+        FoundDateTimeList(FoundDateTimes::Listed(FoundList::new_in(Global)))
     }
 }
 
@@ -99,7 +121,8 @@ impl Clone for FoundDateTimeList {
 
 impl fmt::Debug for FoundDateTimeList {
     fn fmt(&self, f: &mut fmt::Formatter<'_>) -> fmt::Result {
-        self.0.fmt(f)
+        let list = &self.as_slice();
+        f.debug_tuple("FoundDateTimeList").field(list).finish()
     }
 }
 
@@ -143,8 +166,7 @@ impl DateTime {
         time_zone_ref: TimeZoneRef<'_>,
     ) -> Result<FoundDateTimeList, TzError> {
         let fields = Fields::new(year, month, month_day, hour, minute, second, nanoseconds);
-        let found = find_fields(Global, &fields, &plain(&time_zone_ref))?;
-        Ok(FoundDateTimeList(found))
+        find_in_place(Global, &fields, &ZoneData::of(&time_zone_ref)).map(FoundDateTimeList)
     }
 
     /// What [`DateTime::find`] returns for the fields of the local time. The `UtcDateTime` is read as a local time, without an offset.
@@ -158,7 +180,6 @@ impl DateTime {
         local: UtcDateTime,
         time_zone_ref: TimeZoneRef<'_>,
     ) -> Result<FoundDateTimeList, TzError> {
-        let found = find_fields(Global, local.fields(), &plain(&time_zone_ref))?;
-        Ok(FoundDateTimeList(found))
+        find_in_place(Global, local.fields(), &ZoneData::of(&time_zone_ref)).map(FoundDateTimeList)
     }
 }

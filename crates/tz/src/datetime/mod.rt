@@ -7,6 +7,7 @@ pub(crate) mod entry_takers;
 pub(crate) mod find;
 mod found;
 pub(crate) mod gaps_and_folds;
+pub(crate) mod in_place;
 mod meaning;
 pub(crate) mod slots;
 pub(crate) mod utc_date_time;
