@@ -30,3 +30,4 @@ pub mod UtcTexts
 pub mod ReadBack
 pub mod PrintedForms
 pub mod PrintedBytes
+pub mod ColumnAnswers

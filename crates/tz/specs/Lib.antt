@@ -28,3 +28,4 @@ pub mod SlotEquality
 pub mod Choices
 pub mod Meanings
 pub mod EntryEnds
+pub mod Columns

@@ -1,6 +1,7 @@
 //! For the crates above and their tests, and no part of the public surface: fields, text, the
-//! search for them, the slots that it fills, and how bytes are read.
+//! search for them, the slots that it fills, columns, and how bytes are read.
 
+pub use crate::columns::{Unanswered, write_offsets};
 pub use crate::datetime::date_time::fields_of;
 pub use crate::datetime::disambiguation::find_one;
 pub use crate::datetime::find::find_fields;

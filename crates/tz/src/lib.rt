@@ -81,6 +81,7 @@
 //! do not allocate; what they are passed may, as the writer to which a date time is printed.
 #![tactic(auto)]
 
+mod columns;
 pub mod datetime;
 pub mod inner;
 pub mod laws;
