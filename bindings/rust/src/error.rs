@@ -8,8 +8,7 @@ pub use crate::proved::tz_base::error::ReadFault;
 pub use crate::proved::tz_base::error::{Error, TzError, datetime, parse, timezone};
 pub use crate::shim::alloc::AllocError;
 
-use core::error;
-use core::fmt;
+use core::{error, fmt};
 
 impl<T: Into<TzError>> From<T> for Error {
     fn from(error: T) -> Self {
@@ -17,46 +16,34 @@ impl<T: Into<TzError>> From<T> for Error {
     }
 }
 
-/// The first error of a call over a whole column, and its place.
+/// Why a call over whole columns failed.
 #[derive(Debug)]
-pub struct ColumnError {
-    place: usize,
-    error: TzError,
-}
-
-impl ColumnError {
-    /// The error at a place.
-    pub(crate) const fn new(place: usize, error: TzError) -> Self {
-        ColumnError { place, error }
-    }
-
-    /// The first place that has an error.
-    #[must_use]
-    pub const fn place(&self) -> usize {
-        self.place
-    }
-
-    /// The error there.
-    #[must_use]
-    pub const fn error(&self) -> &TzError {
-        &self.error
-    }
+pub enum ColumnError {
+    /// The columns differ in length. Nothing is written.
+    UnequalLengths,
+    /// A place has no answer, and the places before it have one.
+    At {
+        /// The first place that has none.
+        place: usize,
+        /// The error there.
+        error: TzError,
+    },
 }
 
 impl fmt::Display for ColumnError {
     fn fmt(&self, f: &mut fmt::Formatter<'_>) -> fmt::Result {
-        write!(f, "at place {}: {}", self.place, self.error)
+        match self {
+            ColumnError::UnequalLengths => f.write_str("columns of unequal lengths"),
+            ColumnError::At { place, error } => write!(f, "at place {place}: {error}"),
+        }
     }
 }
 
 impl error::Error for ColumnError {
     fn source(&self) -> Option<&(dyn error::Error + 'static)> {
-        Some(&self.error)
-    }
-}
-
-impl From<ColumnError> for TzError {
-    fn from(error: ColumnError) -> Self {
-        error.error
+        match self {
+            ColumnError::UnequalLengths => None,
+            ColumnError::At { error, .. } => Some(error),
+        }
     }
 }

@@ -1,6 +1,7 @@
 //! What needs no memory, with each set of features: a zone in a constant, its lookups, changes, columns and searches, and texts.
 
 use tz::datetime::{Disambiguation, FoundDateTimeKind, Meaning};
+use tz::error::ColumnError;
 use tz::timezone::{
     AlternateTime, LeapSecond, MonthWeekDay, RuleDay, Transition, TransitionRule, is_zone_name,
 };
@@ -142,7 +143,8 @@ fn columns_are_answered() {
     let unix_times = [FORWARD - 1, FORWARD, i64::MAX, BACK];
     let mut offsets = [0; 4];
     let fault = ZONE.offsets_at(&unix_times, &mut offsets).unwrap_err();
-    assert_eq!((fault.place(), offsets), (2, [3_600, 7_200, 0, 3_600]));
+    assert!(matches!(fault, ColumnError::At { place: 2, .. }));
+    assert_eq!(offsets, [3_600, 7_200, 0, 3_600]);
     assert_eq!(fault.to_string(), "at place 2: out of range operation");
     let epoch = DateTime::from_timespec(0, 0, ZONE).unwrap();
     let mut date_times = [epoch; 2];

@@ -48,34 +48,38 @@ fn first<T>(answers: &[Result<T, TzError>]) -> Option<(usize, String)> {
 /// A column's error, as its place and its text.
 fn told(answer: Result<(), ColumnError>) -> Option<(usize, String)> {
     let error = answer.err()?;
-    let text = error.error().to_string();
-    assert_eq!(
-        error.to_string(),
-        format!("at place {}: {text}", error.place())
-    );
-    Some((error.place(), text))
+    let shown = error.to_string();
+    let ColumnError::At { place, error } = error else {
+        panic!("{shown}")
+    };
+    let text = error.to_string();
+    assert_eq!(shown, format!("at place {place}: {text}"));
+    Some((place, text))
 }
 
-const LENGTHS: [usize; 7] = [0, 1, 2, 40, 255, 256, 1000];
+/// Up to two blocks of 16 and some places, and longer ones.
+fn lengths() -> impl Iterator<Item = usize> {
+    (0..=40).chain([255, 256, 1000])
+}
 
 #[test]
 fn offsets_are_those_of_single_calls() {
     let zone = zone();
     let zone = zone.as_ref();
-    for length in LENGTHS {
+    for length in lengths() {
         let instants = instants(length);
         let single = instants.iter().map(|instant| {
             let local_time_type = zone.find_local_time_type(*instant)?;
             Ok(local_time_type.ut_offset())
         });
         let single: Vec<Result<i32, TzError>> = single.collect();
-        let mut offsets = vec![i32::MIN; length + 1];
+        let mut offsets = vec![i32::MIN; length];
         assert_eq!(
             told(zone.offsets_at(&instants, &mut offsets)),
             first(&single)
         );
         let wanted = single.iter().map(|one| *one.as_ref().unwrap_or(&i32::MIN));
-        assert!(wanted.chain([i32::MIN]).eq(offsets));
+        assert!(wanted.eq(offsets));
     }
 }
 
@@ -84,21 +88,18 @@ fn date_times_are_those_of_single_calls() {
     let zone = zone();
     let zone = zone.as_ref();
     let epoch = DateTime::from_timespec(0, 0, TimeZoneRef::utc()).unwrap();
-    for length in LENGTHS {
+    for length in lengths() {
         let instants = instants(length);
         let nanoseconds = (0..length).map(|place| if place % 30 == 29 { 1_000_000_000 } else { 7 });
         let nanoseconds: Vec<_> = nanoseconds.collect();
         let single = instants.iter().zip(&nanoseconds);
         let single = single.map(|(instant, rest)| DateTime::from_timespec(*instant, *rest, zone));
         let single: Vec<_> = single.collect();
-        let mut shown = vec![epoch; length + 1];
+        let mut shown = vec![epoch; length];
         let answer = zone.date_times_at(&instants, &nanoseconds, &mut shown);
         assert_eq!(told(answer), first(&single));
         let wanted = single.iter().map(|one| one.as_ref().unwrap_or(&epoch));
-        let wanted: Vec<_> = wanted
-            .chain([&epoch])
-            .map(|one| format!("{one:?}"))
-            .collect();
+        let wanted: Vec<_> = wanted.map(|one| format!("{one:?}")).collect();
         let shown: Vec<_> = shown.iter().map(|one| format!("{one:?}")).collect();
         assert_eq!(shown, wanted);
     }
@@ -114,7 +115,7 @@ fn instants_are_those_of_single_calls() {
         Disambiguation::Later,
         Disambiguation::Reject,
     ] {
-        for length in LENGTHS {
+        for length in lengths() {
             let local = (0..length).map(|place| match place % 5 {
                 0 => UtcDateTime::new(2000, 3, 26, 2, 30, 0, 0).unwrap(),
                 1 => UtcDateTime::new(2000, 10, 29, 2, 30, 0, 0).unwrap(),
@@ -127,34 +128,113 @@ fn instants_are_those_of_single_calls() {
                 Ok(meant.map(|meant| meant.unix_time()))
             });
             let single: Vec<Result<Option<i64>, TzError>> = single.collect();
-            let mut meant = vec![Some(77); length + 1];
+            let mut meant = vec![Some(77); length];
             let answer = zone.instants_of(&local, disambiguation, &mut meant);
             assert_eq!(told(answer), first(&single));
             let wanted = single.iter().map(|one| *one.as_ref().unwrap_or(&Some(77)));
-            assert!(wanted.chain([Some(77)]).eq(meant));
+            assert!(wanted.eq(meant));
+        }
+    }
+}
+
+/// Each length up to more than two blocks, in order and in none, with an error at each place.
+#[test]
+fn an_error_may_be_at_each_place() {
+    let zone = zone();
+    let zone = zone.as_ref();
+    let epoch = DateTime::from_timespec(0, 0, TimeZoneRef::utc()).unwrap();
+    for step in [0, 40_000, 9_000_000, -9_000_000, 77_777_777_777] {
+        for length in 0..=40 {
+            for fault in 0..length {
+                let instant = |place: usize| 954_000_000 + (step * place as i64) % 900_000_000;
+                let mut instants: Vec<_> = (0..length).map(instant).collect();
+                instants[fault] = i64::MAX;
+                let mut offsets = vec![i32::MIN; length];
+                let answer = zone.offsets_at(&instants, &mut offsets);
+                assert_eq!(told(answer).unwrap().0, fault);
+                let mut shown = vec![epoch; length];
+                let answer = zone.date_times_at(&instants, &vec![5; length], &mut shown);
+                assert_eq!(told(answer).unwrap().0, fault);
+                for (place, instant) in instants.iter().enumerate() {
+                    let single = DateTime::from_timespec(*instant, 5, zone).unwrap_or(epoch);
+                    assert_eq!(format!("{:?}", shown[place]), format!("{single:?}"));
+                    let offset = single.local_time_type().ut_offset();
+                    let wanted = if place == fault { i32::MIN } else { offset };
+                    assert_eq!(offsets[place], wanted);
+                }
+            }
+        }
+    }
+}
+
+/// Random columns in order, in none, and in order but for one place, beside single calls.
+#[test]
+fn random_columns_are_single_calls() {
+    let zone = zone();
+    let zone = zone.as_ref();
+    let mut state = 88_172_645_463_325_252_u64;
+    let mut random = |below: u64| {
+        state ^= state << 13;
+        state ^= state >> 7;
+        state ^= state << 17;
+        state % below
+    };
+    for round in 0..2000 {
+        let (length, years) = (random(100) as usize, 1 + random(60));
+        let mut instants: Vec<_> = (0..length)
+            .map(|_| 940_000_000 + random(31_556_952 * years) as i64)
+            .collect();
+        if round % 3 > 0 {
+            instants.sort_unstable();
+        }
+        if round % 3 > 1 && length > 0 {
+            let (one, other) = (
+                random(length as u64) as usize,
+                random(length as u64) as usize,
+            );
+            instants.swap(one, other);
+        }
+        let mut offsets = vec![i32::MIN; length];
+        zone.offsets_at(&instants, &mut offsets).unwrap();
+        let mut shown = vec![DateTime::from_timespec(0, 0, zone).unwrap(); length];
+        zone.date_times_at(&instants, &vec![9; length], &mut shown)
+            .unwrap();
+        for (place, instant) in instants.iter().enumerate() {
+            let single = DateTime::from_timespec(*instant, 9, zone).unwrap();
+            assert_eq!(offsets[place], single.local_time_type().ut_offset());
+            assert_eq!(format!("{:?}", shown[place]), format!("{single:?}"));
         }
     }
 }
 
 #[test]
-fn the_shortest_column_decides() {
+fn unequal_lengths_are_refused() {
     let zone = zone();
     let zone = zone.as_ref();
+    let refused = |answer: Result<(), ColumnError>| {
+        let error = answer.unwrap_err();
+        assert!(matches!(error, ColumnError::UnequalLengths));
+        assert_eq!(error.to_string(), "columns of unequal lengths");
+        assert!(std::error::Error::source(&error).is_none());
+    };
     let mut offsets = [1; 3];
-    zone.offsets_at(&[0; 2], &mut offsets).unwrap();
-    assert_eq!(offsets, [0, 0, 1]);
-    zone.offsets_at(&[0; 5], &mut offsets).unwrap();
-    assert_eq!(offsets, [0; 3]);
-    zone.offsets_at(&[0; 5], &mut []).unwrap();
+    for length in [0, 1, 2, 4, 40] {
+        refused(zone.offsets_at(&vec![0; length], &mut offsets));
+    }
+    assert_eq!(offsets, [1; 3]);
     let epoch = DateTime::from_timespec(0, 0, TimeZoneRef::utc()).unwrap();
     let mut shown = [epoch; 3];
-    zone.date_times_at(&[1, 2, 3], &[0; 2], &mut shown).unwrap();
-    assert_eq!(shown.map(|one| one.unix_time()), [1, 2, 0]);
-    let mut meant = [None; 2];
-    let local = [UtcDateTime::UNIX_EPOCH; 1];
-    zone.instants_of(&local, Disambiguation::Reject, &mut meant)
-        .unwrap();
-    assert_eq!(meant, [Some(0), None]);
+    for (length, other) in [(3, 2), (2, 3), (2, 2), (4, 4), (3, 4)] {
+        let (instants, nanoseconds) = (vec![7; length], vec![0; other]);
+        refused(zone.date_times_at(&instants, &nanoseconds, &mut shown));
+    }
+    assert_eq!(shown.map(|one| one.unix_time()), [0; 3]);
+    let mut meant = [Some(77); 2];
+    for length in [0, 1, 3] {
+        let local = vec![UtcDateTime::UNIX_EPOCH; length];
+        refused(zone.instants_of(&local, Disambiguation::Reject, &mut meant));
+    }
+    assert_eq!(meant, [Some(77); 2]);
 }
 
 /// A search with more entries than the crate has slots on its stack: a clock that is set back an hour each hour shows 5:10 six times.

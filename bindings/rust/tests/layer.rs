@@ -401,11 +401,8 @@ fn a_column_without_a_type_stays_as_it_is() {
         .as_ref()
         .date_times_at(&unix_times, &[0; 3], &mut date_times);
     let fault = fault.unwrap_err();
-    assert_eq!(fault.place(), 1);
-    assert_eq!(
-        shown(fault.error()),
-        shown(TzError::NoAvailableLocalTimeType)
-    );
+    assert!(matches!(fault, ColumnError::At { place: 1, .. }));
+    assert_eq!(shown(fault.source().unwrap()), "NoAvailableLocalTimeType");
     assert_eq!(
         date_times.map(|date_time| date_time.unix_time()),
         [last - 1, 0, 0]
@@ -416,10 +413,9 @@ fn a_column_without_a_type_stays_as_it_is() {
         .offsets_at(&unix_times, &mut offsets)
         .unwrap_err();
     assert_eq!(offsets, [3_600, 7, 7]);
-    // Its cause is the error there, which it becomes, too.
+    // Its cause is the error there.
     let source = fault.source().unwrap().downcast_ref::<TzError>().unwrap();
-    assert_eq!(shown(source), shown(fault.error()));
-    assert_eq!(shown(TzError::from(fault)), "NoAvailableLocalTimeType");
+    assert_eq!(shown(source), "NoAvailableLocalTimeType");
     let mut date_times = [epoch; 1];
     let fault = zone
         .as_ref()
@@ -429,7 +425,6 @@ fn a_column_without_a_type_stays_as_it_is() {
         shown(fault.source().unwrap()),
         "DateTime(InvalidNanoseconds)"
     );
-    assert_eq!(shown(TzError::from(fault)), "DateTime(InvalidNanoseconds)");
 }
 
 /// Seconds and nanoseconds, and the time of the system's clock so long after 1970, or before it, if there is one.

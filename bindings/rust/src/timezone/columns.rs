@@ -3,19 +3,24 @@
 use super::TimeZoneRef;
 use crate::datetime::{DateTime, Disambiguation, UtcDateTime};
 use crate::error::{ColumnError, TzError};
+use crate::proved::tz::inner::{Unanswered, write_offsets};
+use crate::proved::tz_zone::inner::ZoneData;
 
-/// Answers each place, and returns the first error. The places of errors stay as they are.
+/// Answers each place of a column of the same length, and returns the first error. The places of errors stay as they are.
 #[inline(always)]
 fn answer<I, T>(
-    asked: impl Iterator<Item = I>,
+    asked: impl ExactSizeIterator<Item = I>,
     answers: &mut [T],
     mut call: impl FnMut(I) -> Result<T, TzError>,
 ) -> Result<(), ColumnError> {
+    if asked.len() != answers.len() {
+        return Err(ColumnError::UnequalLengths);
+    }
     let mut first = Ok(());
     for (place, (asked, slot)) in asked.zip(answers).enumerate() {
         match call(asked) {
             Ok(answer) => *slot = answer,
-            Err(error) if first.is_ok() => first = Err(ColumnError::new(place, error)),
+            Err(error) if first.is_ok() => first = Err(ColumnError::At { place, error }),
             Err(_) => {}
         }
     }
@@ -23,13 +28,15 @@ fn answer<I, T>(
 }
 
 impl TimeZoneRef<'_> {
-    /// Writes the offsets of the clock at instants, in Unix seconds, into a column: as many as the shorter of both has. Instants in order are
-    /// fastest.
+    /// Writes the offsets of the clock at instants, in Unix seconds, into a column of the same length. Instants in order are fastest, and those
+    /// between two changes of the clock.
     ///
     /// # Errors
     ///
-    /// The first place at which the clock has no offset, with the errors of [`find_local_time_type`](Self::find_local_time_type). All other
-    /// offsets are written, and where there is none the column stays as it is. No offset is `i32::MIN`.
+    /// - [`ColumnError::UnequalLengths`] if the columns differ in length: nothing is written;
+    /// - [`ColumnError::At`] the first place at which the clock has no offset, with the errors of
+    ///   [`find_local_time_type`](Self::find_local_time_type). All other offsets are written, and where there is none the column stays as it is. No
+    ///   offset is `i32::MIN`.
     ///
     /// ```
     /// # #[cfg(feature = "std")] {
@@ -41,31 +48,33 @@ impl TimeZoneRef<'_> {
     /// # Ok::<(), Box<dyn std::error::Error>>(())
     /// ```
     pub fn offsets_at(&self, unix_times: &[i64], offsets: &mut [i32]) -> Result<(), ColumnError> {
-        let mut segment = self.segment_at(unix_times.first().copied().unwrap_or_default());
-        answer(unix_times.iter(), offsets, |&unix_time| {
-            if !segment.contains(unix_time) {
-                segment = self.segment_at(unix_time);
-            }
-            match segment.local_time_type() {
-                Some(local_time_type) => Ok(local_time_type.ut_offset()),
-                None => Ok(self.find_local_time_type(unix_time)?.ut_offset()),
-            }
-        })
+        if unix_times.len() != offsets.len() {
+            return Err(ColumnError::UnequalLengths);
+        }
+        let (zone, mut next, mut first) = (ZoneData::of(self), 0, Ok(()));
+        let mut write = |next| write_offsets(unix_times, next, &zone, offsets);
+        while let Err(Unanswered { index: i, error }) = write(next) {
+            (next, first) = (i + 1, first.and(Err(ColumnError::At { place: i, error })));
+        }
+        first
     }
 
-    /// Writes what clocks show at instants, in Unix seconds and nanoseconds, into a column: as many date times as the shortest of the three has.
-    /// Instants in order are fastest.
+    /// Writes what clocks show at instants, in Unix seconds and nanoseconds, into a column of the same length. Instants in order are fastest.
     ///
     /// # Errors
     ///
-    /// The first place at which clocks show no date time, with the errors of [`DateTime::from_timespec`]. All other date times are written, and
-    /// where there is none the column stays as it is.
+    /// - [`ColumnError::UnequalLengths`] if the columns differ in length: nothing is written;
+    /// - [`ColumnError::At`] the first place at which clocks show no date time, with the errors of [`DateTime::from_timespec`]. All other date
+    ///   times are written, and where there is none the column stays as it is.
     pub fn date_times_at(
         &self,
         unix_times: &[i64],
         nanoseconds: &[u32],
         date_times: &mut [DateTime],
     ) -> Result<(), ColumnError> {
+        if unix_times.len() != nanoseconds.len() {
+            return Err(ColumnError::UnequalLengths);
+        }
         let mut segment = self.segment_at(unix_times.first().copied().unwrap_or_default());
         let asked = unix_times.iter().zip(nanoseconds);
         answer(asked, date_times, |(&unix_time, &nanoseconds)| {
@@ -81,13 +90,14 @@ impl TimeZoneRef<'_> {
         })
     }
 
-    /// Writes the instants that local times mean, in Unix seconds, into a column: as many as the shorter of both has. There is `None` where
+    /// Writes the instants that local times mean, in Unix seconds, into a column of the same length. There is `None` where
     /// [`DateTime::from_local`] returns it.
     ///
     /// # Errors
     ///
-    /// The first place at which there is an error, with those of [`DateTime::from_local`]. All other instants are written, and where there is an
-    /// error the column stays as it is.
+    /// - [`ColumnError::UnequalLengths`] if the columns differ in length: nothing is written;
+    /// - [`ColumnError::At`] the first place at which there is an error, with those of [`DateTime::from_local`]. All other instants are written, and
+    ///   where there is an error the column stays as it is.
     pub fn instants_of(
         &self,
         local: &[UtcDateTime],
