@@ -5,12 +5,10 @@
 static const int64_t some_instants[] = {INT64_MIN, -1, 0, 5, 946684799, 946684800, 954032399, 954032400, 972781199, 972781200,
                                         4102444800, INT64_C(67767976233532799), INT64_MAX, 954032400, -1};
 enum { SOME = sizeof some_instants / sizeof *some_instants, MOST = 40 };
-static const size_t column_lengths[] = {0, 1, 2, MOST};
 
 /* At each place of a column stands what the call for one instant answers, and nothing else is written. */
 static void test_instant_columns(const tz_zone *zone) {
-  for (size_t k = 0; k < sizeof column_lengths / sizeof *column_lengths; k++) {
-    const size_t n = column_lengths[k];
+  for (size_t n = 0; n <= MOST; n++) {
     int64_t instants[MOST];
     uint32_t nanoseconds[MOST];
     int32_t offsets[MOST + 1];
@@ -42,6 +40,24 @@ static void test_instant_columns(const tz_zone *zone) {
   }
 }
 
+/* An instant without a type at each place of a column whose others are in order: the first ones in one span, the last ones over changes. */
+static void test_offset_fault_at_each_place(const tz_zone *zone) {
+  for (size_t place = 0; place < MOST; place++) {
+    int64_t instants[MOST];
+    int32_t offsets[MOST];
+    tz_code codes[MOST];
+    for (size_t i = 0; i < MOST; i++) instants[i] = 946684800 + (int64_t)(i < MOST / 2 ? i : i * 1000000), offsets[i] = 77, codes[i] = 777;
+    instants[place] = INT64_MIN;
+    CODE(tz_column_offsets(instants, MOST, zone, offsets, MOST, codes, MOST), TZ_OK);
+    for (size_t i = 0; i < MOST; i++) {
+      tz_local_time_type type = {0};
+      type.ut_offset = 77;
+      EXPECT(codes[i], code_of(tz_zone_type_at(zone, instants[i], &type)));
+      EXPECT(offsets[i], type.ut_offset);
+    }
+  }
+}
+
 /* The same for local times and each choice. */
 static void test_instants_of_fields(const tz_zone *zone) {
   const tz_fields some[] = {fields_of(2001, 3, 25, 2, 30, 0, 1), fields_of(2001, 10, 28, 2, 30, 0, 0), fields_of(2001, 2, 29, 0, 0, 0, 0),
@@ -49,8 +65,7 @@ static void test_instants_of_fields(const tz_zone *zone) {
   tz_fields fields[MOST];
   for (size_t i = 0; i < MOST; i++) fields[i] = some[i % (sizeof some / sizeof *some)];
   for (uint8_t choice = TZ_COMPATIBLE; choice <= TZ_REJECT; choice++) {
-    for (size_t k = 0; k < sizeof column_lengths / sizeof *column_lengths; k++) {
-      const size_t n = column_lengths[k];
+    for (size_t n = 0; n <= MOST; n++) {
       int64_t instants[MOST + 1];
       tz_code codes[MOST + 1];
       for (size_t i = 0; i <= MOST; i++) instants[i] = 77, codes[i] = 777;
@@ -102,6 +117,7 @@ void test_columns(void) {
   made_zone made;
   make_zone(&made);
   test_instant_columns(&made.zone);
+  test_offset_fault_at_each_place(&made.zone);
   test_instants_of_fields(&made.zone);
   test_refused_columns(&made.zone);
   tz_parts over = made.zone.parts;
@@ -109,5 +125,6 @@ void test_columns(void) {
   tz_zone ended = {over, {0, 0}};
   CODE(tz_zone_check(&ended.parts, &ended.offsets), TZ_OK);
   test_instant_columns(&ended);
+  test_offset_fault_at_each_place(&ended);
   test_instants_of_fields(&ended);
 }

@@ -5,11 +5,11 @@ use Rattle.tz_base.specs.declared.error.TzError.{TzError}
 use Rattle.tz_base.specs.declared.fields.Fields.{Fields}
 use Rattle.tz_base.specs.Days.{day_number, is_leap, month_length}
 use Rattle.tz_base.specs.Fields.{IsMonth, IsMonthDay}
-use Rattle.tz_rule.specs.LocalTimeType.{LocalTimeType}
-use Rattle.tz_zone.specs.Clock.{IsClock, IsLookupFault}
+use Rattle.tz_zone.specs.Clock.{IsLookupFault}
 use Rattle.tz_zone.specs.Table.{Zone}
 use Rattle.tz.specs.DateTimes.{DateTime, IsClockFault, ShowsByClock}
-use Rattle.tz.specs.Meanings.{IsMeaning, IsMeaningFault}
+use Rattle.tz.specs.Choices.{IsMeaning, IsMeaningFault}
+use Rattle.tz.specs.Columns.{IsOffset}
 use Rattle.tz.specs.declared.datetime.disambiguation.Disambiguation.{Disambiguation}
 use Rattle.tz_c.specs.Codes.{IsAnswer, IsAnswerOr, buffer_length, code_of, no_date_time, unknown_choice}
 use Rattle.tz_c.specs.DateTimes.{CanBeSearched, IsDateTimeDataOf}
@@ -42,9 +42,9 @@ pub record AreAnswers {V : Type 0} (IsAnswerAt : ℕ → ℕ → V → Type 0) (
   pub kept : (i : ℕ) (code : ℕ) → slice_get codes i ≡ Some code → code ≢ 0
       → slice_get after i ≡ slice_get before i
 
--- the clock's offset at an instant
-abbrev pub IsOffset : Zone → ℤ → ℤ → Type 0
-IsOffset z u offset = (t : LocalTimeType) × IsClock z u t × (offset ≡ t.ut_offset)
+-- the codes from an index on are those of no error
+abbrev pub AreOkFrom : ℕ → List ℕ → Type 0
+AreOkFrom first codes = (i : ℕ) (code : ℕ) → first ≤ i → slice_get codes i ≡ Some code → code ≡ 0
 
 -- the answer at an index: the clock's offset at the instant of the index
 abbrev pub IsOffsetAt : Zone → List ℤ → ℕ → ℕ → ℤ → Type 0

@@ -7,7 +7,7 @@ ghost use Rattle.tz_zone.specs.Changes.{IsTrueSegment, segment_of};
 ghost use Rattle.tz_zone.specs.Clock.{IsClock, IsLookupFault};
 ghost use Rattle.tz.specs.declared.datetime.disambiguation.Disambiguation.{Disambiguation};
 ghost use Rattle.tz_c.specs.Codes.{IsAnswer, IsAnswerOr, buffer_length};
-ghost use Rattle.tz_c.specs.Columns.{AreAnswers, AreInstantsBy, AreOfLength, IsDateTimeAt, IsDay, IsInDay, IsInstantAnswer, IsInstantAt, IsOffset, IsOffsetAt};
+ghost use Rattle.tz_c.specs.Columns.{AreAnswers, AreInstantsBy, AreOfLength, AreOkFrom, IsDateTimeAt, IsDay, IsInDay, IsInstantAnswer, IsInstantAt, IsOffsetAt};
 ghost use Rattle.tz_c.specs.DateTimes.{IsDateTimeDataOf, choice_of};
 ghost use Rattle.tz_c.specs.ZoneOfData.{zone_of_data};
 
@@ -18,7 +18,7 @@ use crate::date_time_data::DateTimeData;
 use crate::searches::choice_of;
 use crate::zone_data::TzZone;
 use tz::datetime::Disambiguation;
-use tz::inner::{Fields, find_one, local_reading};
+use tz::inner::{Fields, find_one, local_reading, write_offsets};
 use tz_base::constants::{NANOSECONDS_PER_SECOND, SECONDS_PER_DAY};
 use tz_base::error::TzError;
 use tz_rule::timezone::LocalTimeType;
@@ -58,23 +58,12 @@ fn type_in<'a>(
     }
 }
 
-/// The offset of the zone's clock at an instant of a segment.
-#[inline(always)]
-fn offset_in(zone: &TzZone<'_>, segment: &Segment<'_>, unix_time: i64, out: &mut i32) -> u32
-    requires segment { IsTrueSegment (zone_of_data zone.now) (segment_of segment.now) }
-    requires within { ((segment_of segment.now).from ≤ℤ unix_time)
-        × (unix_time ≤ℤ (segment_of segment.now).last) }
-    ensures answer { IsAnswer result (IsOffset (zone_of_data zone.now) unix_time out.new)
-        (IsLookupFault (zone_of_data zone.now) unix_time) }
-    ensures kept { result ≢ 0 → out.new ≡ out.old }
+/// Clears the codes.
+fn clear(codes: &mut [u32])
+    ensures length { length codes.new ≡ length codes.old }
+    ensures cleared { AreOkFrom 0 codes.new }
 {
-    match type_in(zone, segment, unix_time) {
-        Ok(local_time_type) => {
-            *out = local_time_type.ut_offset();
-            OK
-        }
-        Err(error) => code_of(&error),
-    }
+    codes.fill(OK);
 }
 
 /// A day, by its date, and its first reading.
@@ -230,12 +219,12 @@ pub extern "C" fn tz_column_offsets(
     if offsets.len() != unix_times.len() || codes.len() != unix_times.len() {
         return BUFFER_LENGTH;
     }
-    let mut segment = zone
-        .lent()
-        .segment_at(unix_times.first().copied().unwrap_or(0));
-    for i in 0..unix_times.len() {
-        segment = segment_around(zone, segment, unix_times[i]);
-        codes[i] = offset_in(zone, &segment, unix_times[i], &mut offsets[i]);
+    clear(codes);
+    let data = zone.as_zone_data();
+    let mut first = 0;
+    while let Err(unanswered) = write_offsets(unix_times, first, &data, offsets) {
+        codes[unanswered.index] = code_of(&unanswered.error);
+        first = unanswered.index + 1;
     }
     OK
 }

@@ -1,27 +1,43 @@
--- Each turn answers one index more.
-use Rattle.tz_c.proofs.Common.{refl, inl, rules, SFits, to_z-of_z, ◌≡◌, arith, w64, pos, zone_of_data, ◌≤◌, length, slice_index_or, get_or_from_slice_get, IsOffsetAt}
-use Rattle.tz_c.proofs.AnswersInTurn.{one_more, all_of}
+-- Each call answers the indexes up to one without an offset, and that one gets its code.
+use Rattle.tz_c.proofs.Common.{refl, inl, inr, arith, zone_of_data, ◌<◌, length, IsOffsetAt}
+use Rattle.tz.specs.Columns.{IsOffsetAt as IsValueAt}
+use Rattle.tz_c.proofs.AnswersInTurn.{all_of, answered_up_to, none_coded, refused_at}
 use Rattle.tz_c.proofs.columns.tz_column_offsets.Goals as goal
 
-pub loop-i-preserved : goal.loop-i-preserved
-loop-i-preserved c =
+pub loop-unanswered-init : goal.loop-unanswered-init
+loop-unanswered-init c = (
+  omega arith,
+  none_coded (IsOffsetAt (zone_of_data c.args.zone.now) c.args.unix_times.now) c.args.offsets.now c.clear.new.codes
+      (omega (arith, c.clear.ensures.length, c.if-offsets-unix_times.false, c.if-codes-unix_times.false))
+      c.clear.ensures.cleared,
+)
+
+pub loop-unanswered-preserved : goal.loop-unanswered-preserved
+loop-unanswered-preserved c =
+    let z = zone_of_data c.args.zone.now in
     let unix_times = c.args.unix_times.now in
-    let i = c.loop-i.i in
-    let answer_at = IsOffsetAt (zone_of_data c.args.zone.now) unix_times in
-    let fits : SFits w64 (slice_index_or unix_times i (pos 0)) = search rules in
-    let answer : answer_at i c.offset_in.result c.offset_in.new.out = λ u at.
-    let read : slice_index_or unix_times i (pos 0) ≡ u = get_or_from_slice_get unix_times i u (pos 0) at in
-    rw (to_z-of_z w64 (slice_index_or unix_times i (pos 0)) fits, read) at c.offset_in.ensures.answer in (
-      c.segment_around-segment.ensures.segment,
-      one_more answer_at c.args.offsets.now c.loop-i.offsets c.loop-i.codes i c.offset_in.result c.offset_in.new.out _
-          c.loop-i.invariant.1
-          (omega (arith, c.if-offsets-unix_times.false, c.loop-i-test.true)) answer c.offset_in.ensures.kept,
+    let index = c.in-Err.unanswered.index in
+    let refused = rw c.as_zone_data-data.ensures at c.in-Err.ensures.err in
+    let answered = answered_up_to (IsOffsetAt z unix_times) (IsValueAt z unix_times) c.args.offsets.now
+    c.loop-unanswered.offsets c.write_offsets.new.offsets c.loop-unanswered.codes c.loop-unanswered.first index
+    (λ i offset is u at. inl (refl, is u at)) refused.within.0 c.loop-unanswered.invariant.1 refused.up_to in
+    let before : index < length c.args.offsets.now =
+    omega (arith, refused.within.1, c.loop-unanswered.invariant.1.so_far.lengths_are.0) in (
+      omega (arith, before, c.if-offsets-unix_times.false),
+      refused_at (IsOffsetAt z unix_times) c.args.offsets.now c.write_offsets.new.offsets c.loop-unanswered.codes index
+          c.code_of.result before
+          (λ offset u at. inr (c.in-Err.unanswered.error, c.code_of.ensures, refused.fault u at)) answered,
     )
 
 pub returns-clause-answer : goal.returns-clause-answer
 returns-clause-answer c =
-    let all : length c.args.offsets.now ≤ c.loop-i.i =
-    omega (arith, c.if-offsets-unix_times.false, c.loop-i-test.false) in
-    let answers = all_of (IsOffsetAt (zone_of_data c.args.zone.now) c.args.unix_times.now) c.args.offsets.now
-    c.loop-i.offsets c.loop-i.codes c.loop-i.i c.loop-i.invariant.1 all in
+    let z = zone_of_data c.args.zone.now in
+    let unix_times = c.args.unix_times.now in
+    let rest = rw c.as_zone_data-data.ensures at (rw c.in_default.is at c.write_offsets.ensures.ok) in
+    let answered = answered_up_to (IsOffsetAt z unix_times) (IsValueAt z unix_times) c.args.offsets.now
+    c.loop-unanswered.offsets c.write_offsets.new.offsets c.loop-unanswered.codes c.loop-unanswered.first
+    (length unix_times) (λ i offset is u at. inl (refl, is u at)) c.loop-unanswered.invariant.0
+    c.loop-unanswered.invariant.1 rest in
+    let answers = all_of (IsOffsetAt z unix_times) c.args.offsets.now c.write_offsets.new.offsets
+    c.loop-unanswered.codes (length unix_times) answered.so_far (omega (arith, c.if-offsets-unix_times.false)) in
     inl (refl, ((c.if-offsets-unix_times.false, c.if-codes-unix_times.false), answers))
