@@ -2,7 +2,7 @@
 use Rattle.tz_query.proofs.Common.{sym, subst, refl, ◌≡◌, [], ap, ◌∷◌, ◌∙◌, ◌++◌, ℕ, List, append_assoc, zone_of, ℤ, ended, line_feed, Time, IfOk-weaker, Adds, written, IfOk, Result, IsTimeAnswer, Query, Answers, IsAnswered, IsQueryAnswer, Leaves, append_cancel_right}
 use Rattle.tz_query.specs.Pages.{EndsLine}
 use Rattle.tz_query.specs.declared.query.output.Output.{Output}
-use Rattle.tz_query.specs.declared.query.answers.Suffixes.{Suffixes}
+use Rattle.tz_query.specs.declared.query.suffixes.Suffixes.{Suffixes}
 
 module _ {A : Type 0} {a b : Answers A} {x : List ℕ} where
   -- the same text

@@ -25,7 +25,8 @@ pub use Rattle.core.proofs.dec2flt.DigitsLemmas.{is_digit, digit_range}
 pub use Rattle.tz.specs.DateTimeGrammar.{EndsDigits, IsDigits}
 pub use Rattle.tz.specs.DateTimes.{DateTime, moment_of, IsClockFault, IsUtc, ShowsInstant}
 pub use Rattle.tz.specs.Entries.{AreEntries, Shown, Entry, Jump}
-pub use Rattle.tz.specs.Found.{Clock, IsFoundBy, IsFound}
+pub use Rattle.tz.specs.Found.{IsFoundBy, IsFound}
+pub use Rattle.tz.specs.GapsAndFolds.{Clock}
 pub use Rattle.tz.specs.PrintedText.{last_digits, type_name_text, seconds_text}
 unfoldable pub use Rattle.tz.specs.PrintedText.{moment_text, nine_digits, suffix_text, date_text, middle_text, offset_text, printed_text, time_text, two_digits, duration_text, two_digits_or_more}
 pub use Rattle.tz.specs.Windows.{IsSearchable}

@@ -11,8 +11,8 @@ use Rattle.tz_query.specs.Numbers.{IsNumber}
 use Rattle.tz_query.specs.Program.{NamesZone, usual_directories}
 use Rattle.tz_query.specs.Lines.{line_feed}
 use Rattle.tz_query.specs.Streams.{WritesFront, WritesFrontOfAnswers}
-use Rattle.tz_query.specs.declared.query.output.RunFault.{RunFault}
-use Rattle.tz_query.specs.declared.query.output.RunFault.TheVariants as runs
+use Rattle.tz_query.specs.declared.query.streams.RunFault.{RunFault}
+use Rattle.tz_query.specs.declared.query.streams.RunFault.TheVariants as runs
 
 -- two arguments of which something holds
 abbrev pub AreTwo : List (List ℕ) → (List ℕ → List ℕ → Type 0) → Type 0

@@ -14,7 +14,7 @@ ghost use Rattle.tz_query.specs.Lines.{line_feed, IsLine, AreLines, IsFirstLine,
 ghost use Rattle.tz_query.specs.Answers.{AreAnswers, IsAnswer, IsGroup, IsMeetingAnswer};
 ghost use Rattle.tz_query.specs.Answers.{IsQueryAnswer, IsSearchAnswer, IsTimeAnswer};
 
-use crate::query::answers::{first_day_begins, week_of};
+use crate::query::meeting_answers::{first_day_begins, week_of};
 use crate::query::read_query::{Query, after_line, read_query};
 use tz::inner::Fields;
 use tz::{DateTime, TimeZoneRef};

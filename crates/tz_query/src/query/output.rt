@@ -1,6 +1,6 @@
-//! Answers on their way out: a page of them, and the streams.
+//! Answers on their way out: a page of them, and all before it.
 
-ghost use Rattle.std.specs.Prelude.{◌≡◌, ◌+◌, ◌<◌, ◌≤◌, ◌∷◌, ◌++◌, [], length, codes, IfOk, ℕ, ℤ, List, MatchBool, ◌≢◌, IfErr, OnOk};
+ghost use Rattle.std.specs.Prelude.{◌≡◌, ◌+◌, ◌<◌, ◌≤◌, ◌∷◌, ◌++◌, [], length, codes, IfOk, ℕ, ℤ, List, MatchBool};
 ghost use Rattle.std.specs.Fmt.{decimal, signed_decimal};
 ghost use Rattle.tz_query.specs.Lines.{ended, line_feed};
 ghost use Rattle.tz_query.specs.Numbers.{space};
@@ -9,20 +9,12 @@ ghost use Rattle.tz_base.specs.Fields.{IsValid};
 ghost use Rattle.tz.specs.DateTimes.{moment_of};
 ghost use Rattle.tz.specs.PrintedText.{moment_text, suffix_text};
 ghost use Rattle.tz_query.specs.Nanoseconds.{with_nanoseconds};
-ghost use Rattle.std.specs.Io.KnownBytes.{Appends};
-ghost use Rattle.tz_query.specs.Streams.{WritesAnswers, WritesFront, WritesFrontOfAnswers};
-ghost use Rattle.tz_zone.specs.ZoneRef.{zone_of};
 
-use super::answers::Suffix;
 use super::read_query::Nanoseconds;
-use crate::query::answers::answer;
+use super::suffixes::Suffix;
 use std::alloc::{AllocError, Allocator};
-use std::io::{Read, Write};
 use std::marker::Model;
-use thiserror::Error;
-use tz::TimeZoneRef;
-use tz::error::ReadFault;
-use tz::inner::{Fields, TextBuffer, middle_of, read_to_end, two_pairs};
+use tz::inner::{Fields, TextBuffer, middle_of, two_pairs};
 
 /// What writing returns: nothing, or that an allocation failed.
 pub type Written = Result<(), AllocError>;
@@ -231,15 +223,15 @@ impl Page {
     /// Appends what follows the year on the line of a date time: month to second, the nanoseconds,
     /// and the suffix of its type.
     #[inline(always)]
-    fn push_rest(&mut self, middle: &[u8; 16], nine: &[u8; 9], suffix: &Suffix)
+    fn push_rest(&mut self, middle: &[u8; 16], digits: &[u8; 9], suffix: &Suffix)
         requires { HasRoomFor 57 self.old }
         ensures text { self.new ≡ self.old ++ (middle.now
-            ++ (nine.now ++ suffix_text suffix.now.local_time_type)) }
+            ++ (digits.now ++ suffix_text suffix.now.local_time_type)) }
         ensures len { length self.new ≤ length self.old + 57 }
     {
         let at = self.len;
         self.bytes[at..at + 16].copy_from_slice(middle);
-        self.bytes[at + 16..at + 25].copy_from_slice(nine);
+        self.bytes[at + 16..at + 25].copy_from_slice(digits);
         self.bytes[at + 25..at + 57].copy_from_slice(&suffix.bytes);
         self.len = at + 25 + suffix.len;
     }
@@ -257,75 +249,5 @@ impl Page {
     {
         self.push_year(fields.year);
         self.push_rest(&middle_of(fields), &nanoseconds.digits, suffix);
-    }
-}
-
-/// Why a run ends without all answers.
-#[derive(Debug, Drop, Error)]
-pub enum RunFault {
-    /// A read of the queries failed.
-    #[error("cannot read queries")]
-    Read,
-    /// The queries or their answers ran out of memory.
-    #[error("no memory")]
-    Memory,
-    /// A write of the answers failed, or accepted no byte.
-    #[error("cannot write answers")]
-    Write,
-}
-
-/// Writes the bytes as far as can be, and returns whether all are written.
-pub(super) fn write_front<W: Write>(out: &mut W, bytes: &[u8]) -> bool
-    ensures { MatchBool result (Appends (W.contents out.old) (W.contents out.new) bytes.now)
-        (WritesFront bytes.now (W.contents out.old) (W.contents out.new)) }
-{
-    let mut rest = bytes;
-    while !rest.is_empty() {
-        let Ok(count @ 1..) = out.write(rest) else {
-            return false;
-        };
-        rest = &rest[count..];
-    }
-    true
-}
-
-/// The initial capacity for input. Memory that is not written to costs little.
-const FIRST_ROOM: usize = 262_144;
-
-/// Reads the input to its end, and then writes the answers of its lines over a zone, as [`answer`]
-/// makes them.
-///
-/// # Errors
-///
-/// The first of these:
-///
-/// - [`RunFault::Read`] if a read of the queries fails;
-/// - [`RunFault::Memory`] if an allocation for the queries or their answers fails;
-/// - [`RunFault::Write`] if a write of the answers fails, or accepts no byte.
-///
-/// After the first two the writer is as it was; after the last a prefix of the answers may have
-/// been written.
-pub fn run<A: Allocator + Copy, R: Read, W: Write>(
-    alloc: A,
-    zone: TimeZoneRef<'_>,
-    input: &mut R,
-    out: &mut W,
-) -> Result<(), RunFault>
-    ensures ok { OnOk result (WritesAnswers (zone_of zone.entry) (R.remaining input.old)
-        (R.remaining input.new) (W.contents out.old) (W.contents out.new)) }
-    ensures untouched { IfErr result (λ e. e ≢ RunFault.Write → out.new ≡ out.old) }
-    ensures begun { IfErr result (λ e. e ≡ RunFault.Write
-        → WritesFrontOfAnswers (zone_of zone.entry) (R.remaining input.old) (R.remaining input.new)
-        (W.contents out.old) (W.contents out.new)) }
-{
-    let queries = read_to_end(alloc, input, FIRST_ROOM).map_err(|fault| match fault {
-        ReadFault::Memory(_) => RunFault::Memory,
-        ReadFault::Failed(_) => RunFault::Read,
-    })?;
-    let answers = answer(alloc, zone, &queries).map_err(|_| RunFault::Memory)?;
-    if write_front(out, &answers) {
-        Ok(())
-    } else {
-        Err(RunFault::Write)
     }
 }

@@ -12,7 +12,7 @@ ghost use Rattle.tz_zone.specs.Table.{Zone};
 ghost use Rattle.tz_zone.specs.ZoneRef.{own_zone_of};
 
 use super::read_query::read_number;
-use crate::query::output::{RunFault, run, write_front};
+use crate::query::streams::{RunFault, run, write_front};
 use arrayvec::ArrayString;
 use std::alloc::Allocator;
 use std::fmt::Write as _;

@@ -3,7 +3,7 @@ use Rattle.tz_query.proofs.Common.{rules, SFits, to_z-of_z, w32, sym, subst, ref
 use Rattle.tz.specs.FindFaults.{IsFindFault}
 use Rattle.tz.specs.Meanings.{HasMeaning}
 use Rattle.tz.specs.Outcomes.{IsOutcome}
-use Rattle.tz.specs.declared.datetime.disambiguation.Meaning.{Meaning}
+use Rattle.tz.specs.declared.datetime.meaning.Meaning.{Meaning}
 use Rattle.tz_query.proofs.laws.searches_have_answers.Goals as goal
 
 refused : (z : Zone) (f : Fields) (e : TzError) → IsFindFault ⊥ (IsClock z) f e

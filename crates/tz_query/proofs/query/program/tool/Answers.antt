@@ -4,8 +4,8 @@ use Rattle.tz_query.proofs.Common.{rules, sym, subst, refl, arith, ◌≢◌, �
 use Rattle.std.proofs.Common.{Option}
 use Rattle.tz_query.specs.Failures.{HasEnded}
 use Rattle.tz_query.specs.Streams.{WritesAnswers, WritesFront, WritesFrontOfAnswers}
-use Rattle.tz_query.specs.declared.query.output.RunFault.{RunFault}
-use Rattle.tz_query.specs.declared.query.output.RunFault.TheVariants as runs
+use Rattle.tz_query.specs.declared.query.streams.RunFault.{RunFault}
+use Rattle.tz_query.specs.declared.query.streams.RunFault.TheVariants as runs
 use Rattle.tz_query.proofs.query.program.tool.Goals as goal
 
 begun : {reads : List ℕ → Read → Type 0} {arguments : List (List ℕ)} (zone own : Zone)

@@ -1,5 +1,5 @@
 use Rattle.tz_query.proofs.Common.{◌≡◌, ◌++◌, length, ℕ, List, Appends}
-use Rattle.tz_query.proofs.query.output.write_front.Given as goal
+use Rattle.tz_query.proofs.query.streams.write_front.Given as goal
 
 -- what is not left is written
 abbrev pub invariant-loop-rest : goal.invariant-loop-rest

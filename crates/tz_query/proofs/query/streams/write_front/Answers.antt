@@ -2,7 +2,7 @@
 use Rattle.tz_query.proofs.Common.{sym, subst, refl, ◌≡◌, [], ap, ◌∙◌, ◌++◌, length, append_assoc, take, append-nil, take_rest, nil_from_length, Appends, eqb-true}
 use Rattle.std.proofs.Common.{take-append-drop}
 use Rattle.std.proofs.KnownBytes.{Appends-nil, Appends-trans}
-use Rattle.tz_query.proofs.query.output.write_front.Goals as goal
+use Rattle.tz_query.proofs.query.streams.write_front.Goals as goal
 
 pub loop-rest-init : goal.loop-rest-init
 loop-rest-init g c = ([], refl, Appends-nil (g.W.Write.contents c.args.out.now))

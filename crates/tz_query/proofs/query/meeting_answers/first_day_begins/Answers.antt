@@ -1,7 +1,7 @@
 -- Midnight is a reading of the day less what is over of the day.
 use Rattle.tz_query.proofs.Common.{sym, subst, refl, arith, ◌≡◌, ap, ◌∙◌, rules, ℕ, to_z-of_z, w64, ◌+◌, ◌<◌, ℤ, Fields, pos, ints, negsuc, ◌*◌, reading, ◌+ℤ◌, IsUtc, day_of, int_rem_euclid, int_rem_euclid_is, lit<, ◌*ℤ◌}
-use Rattle.tz_query.proofs.query.answers.first_day_begins.Goals as goal
-use Rattle.tz_query.proofs.query.answers.first_day_begins.Goals.{then-first-eq60, else-first-eq60}
+use Rattle.tz_query.proofs.query.meeting_answers.first_day_begins.Goals as goal
+use Rattle.tz_query.proofs.query.meeting_answers.first_day_begins.Goals.{then-first-eq60, else-first-eq60}
 
 remainder : (day : ℤ) (over : ℕ) → over < 86400 → int_rem_euclid (pos 86400 *ℤ day +ℤ pos over) (pos 86400) ≡ pos over
 remainder (pos day) over h =

@@ -1,7 +1,7 @@
 -- The day's date is that of the week.
 use Rattle.tz_query.proofs.Common.{subst, refl, arith, ◌≡◌, rules, to_z-of_z, ℤ, Fields, ints, w32, SFits, IsCivil, Err, IfOk, Result, Some, IsDateOf, IsReading, Ok, midnight, result_ok, day_after, OnOk}
 use Rattle.tz_query.proofs.MeetingAnswers.{date_of_day}
-use Rattle.tz_query.proofs.query.answers.week_of.Goals as goal
+use Rattle.tz_query.proofs.query.meeting_answers.week_of.Goals as goal
 
 -- the date time of a day's first second has its date
 week : {E : Type 0} (day x : ℤ) (r : Result Fields E) (d : Fields) → Some d ≡ result_ok r → IfOk r (IsCivil x 0)
