@@ -6,13 +6,14 @@ ghost use Rattle.tz_format.specs.Patterns.{text_of};
 ghost use Rattle.tz_format.specs.Shown.{IsShown, shown_of};
 
 use crate::line::Line;
-use crate::moment::Moment;
+use crate::moment::{Moment, Name};
 use crate::pattern::{Pattern, UtcPattern};
 use crate::print::push_pattern;
 use std::fmt;
 use tz::inner::{fields_of, utc_fields_of};
 use tz::{DateTime, UtcDateTime};
 use tz_base::fields::Fields;
+use tz_zone::laws::type_parts_are_sound;
 
 /// A date time as a pattern prints it.
 #[derive(Clone, Copy, Debug)]
@@ -41,10 +42,11 @@ fn moment_of(date_time: &DateTime) -> Moment<'_>
     ensures shown { IsShown (shown_of result) }
 {
     let local_time_type = date_time.local_time_type();
+    type_parts_are_sound(local_time_type);
     Moment {
         fields: copied(fields_of(date_time)),
         ut_offset: local_time_type.ut_offset(),
-        designation: local_time_type.time_zone_designation(),
+        name: Name::OfType(local_time_type),
         unix_time: date_time.unix_time(),
     }
 }
@@ -57,7 +59,7 @@ fn moment_of_utc(date_time: &UtcDateTime) -> Moment<'static>
     Moment {
         fields: copied(utc_fields_of(date_time)),
         ut_offset: 0,
-        designation: "UTC",
+        name: Name::Fixed("UTC"),
         unix_time: date_time.unix_time(),
     }
 }

@@ -323,7 +323,7 @@ impl Line {
             Conversion::Offset => self.push_offset(false, moment.ut_offset),
             Conversion::OffsetWithColon => self.push_offset(true, moment.ut_offset),
             Conversion::Designation => {
-                self.push_designation(moment.designation, moment.ut_offset);
+                self.push_designation(moment.name.text(), moment.ut_offset);
             }
             Conversion::Date => self.push_date(fields),
             Conversion::DateWithSlashes => self.push_date_with_slashes(fields),

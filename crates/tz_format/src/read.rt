@@ -17,7 +17,7 @@ ghost use Rattle.tz_format.specs.declared.read.ReadPatternError.TheVariants.{Mis
 
 use crate::conversion::{Conversion, conversion_at};
 use crate::line::Line;
-use crate::moment::Moment;
+use crate::moment::{Moment, Name};
 use crate::pattern::Pattern;
 use crate::print::{month_name, push_pattern};
 use thiserror::Error;
@@ -428,7 +428,7 @@ fn moment_with(values: &[i32; 13]) -> Option<(UtcDateTime, Moment<'static>)>
             Moment {
                 fields,
                 ut_offset,
-                designation: "",
+                name: Name::Fixed(""),
                 unix_time: 0,
             },
         )),

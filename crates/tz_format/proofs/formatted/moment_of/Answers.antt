@@ -22,7 +22,7 @@ returns-clause-shown c =
     let type_is : c.local_time_type-local_time_type.result.now ≡ d.local_time_type =
     c.local_time_type-local_time_type.ensures in
     let name : IfSome d.local_time_type.designation IsDesignation =
-    rw type_is at c.time_zone_designation.ensures.name in
+    rw type_is at c.type_parts_are_sound.ensures.sound.designation_is in
     let fits_offset : FitsSigned w32 d.local_time_type.ut_offset = search rules in
     let least : IsOffset d.local_time_type.ut_offset =
     subst IsOffset (c.ut_offset.ensures.value ∙ ap (λ (t : LocalTimeType). t.ut_offset) type_is)
