@@ -89,6 +89,193 @@ fn years_have_four_digits_or_more() {
     );
 }
 
+/// The days of a year before one of its months, or of all its months.
+fn days_before(year: i64, month: i64) -> i64 {
+    let is_leap = year % 4 == 0 && (year % 100 != 0 || year % 400 == 0);
+    let days = |month| match month {
+        2 => 28 + i64::from(is_leap),
+        4 | 6 | 9 | 11 => 30,
+        _ => 31,
+    };
+    (1..month).map(days).sum()
+}
+
+/// The days from 1970-01-01 to January 1st of a year, counted year by year in the 400 years around it.
+fn first_day(year: i64) -> i64 {
+    let cycles = (year - 1970).div_euclid(400);
+    let years = 1970 + 400 * cycles..year;
+    146_097 * cycles + years.map(|year| days_before(year, 13)).sum::<i64>()
+}
+
+/// A year's week day, from Sunday on, of a day after January 1st. 1970 began on a Thursday.
+fn week_day(year: i64, year_day: i64) -> i64 {
+    (first_day(year) + year_day + 4).rem_euclid(7)
+}
+
+/// How many weeks of ISO 8601 a year has: 53 if it begins or ends on a Thursday.
+fn weeks(year: i64) -> i64 {
+    let last = days_before(year, 13) - 1;
+    52 + i64::from(week_day(year, 0) == 4 || week_day(year, last) == 4)
+}
+
+/// What each conversion prints of a date at 13:04:09.012345678, by plain arithmetic.
+fn plain_texts(
+    year: i64,
+    month: i64,
+    month_day: i64,
+    offset: i64,
+    name: &str,
+) -> Vec<(&'static str, String)> {
+    let year_text = |year: i64| match year {
+        0.. => format!("{year:04}"),
+        _ => format!("-{:04}", -year),
+    };
+    let months =
+        "January February March April May June July August September October November December";
+    let days = "Sunday Monday Tuesday Wednesday Thursday Friday Saturday";
+    let year_day = days_before(year, month) + month_day - 1;
+    let day = week_day(year, year_day);
+    let from_monday = (day + 6) % 7 + 1;
+    let (month_name, day_name) = (
+        months.split(' ').nth(month as usize - 1).unwrap(),
+        days.split(' ').nth(day as usize).unwrap(),
+    );
+    let (week_year, week) = match (year_day + 11 - from_monday) / 7 {
+        0 => (year - 1, weeks(year - 1)),
+        53 if weeks(year) == 52 => (year + 1, 1),
+        week => (year, week),
+    };
+    // A week begins on each of these days, and the days before the first are in week 0.
+    let january_1st = week_day(year, 0);
+    let weeks_from = |first| {
+        (0..=year_day)
+            .filter(|day| (january_1st + day) % 7 == first)
+            .count()
+    };
+    let century = format!("{:02}", year.rem_euclid(100));
+    let (hours, minutes) = (offset.abs() / 3600, offset.abs() / 60 % 60);
+    let sign = if offset < 0 { '-' } else { '+' };
+    let with_colon = format!("{sign}{hours:02}:{minutes:02}");
+    let unix_time = (first_day(year) + year_day) * 86_400 + 47_049 - offset;
+    vec![
+        ("%Y", year_text(year)),
+        ("%y", century.clone()),
+        ("%G", year_text(week_year)),
+        ("%g", format!("{:02}", week_year.rem_euclid(100))),
+        ("%m", format!("{month:02}")),
+        ("%B", month_name.to_string()),
+        ("%b", month_name[..3].to_string()),
+        ("%h", month_name[..3].to_string()),
+        ("%d", format!("{month_day:02}")),
+        ("%e", format!("{month_day:2}")),
+        ("%j", format!("{:03}", year_day + 1)),
+        ("%H", "13".to_string()),
+        ("%k", "13".to_string()),
+        ("%I", "01".to_string()),
+        ("%p", "PM".to_string()),
+        ("%M", "04".to_string()),
+        ("%S", "09".to_string()),
+        ("%A", day_name.to_string()),
+        ("%a", day_name[..3].to_string()),
+        ("%u", from_monday.to_string()),
+        ("%w", day.to_string()),
+        ("%V", format!("{week:02}")),
+        ("%U", format!("{:02}", weeks_from(0))),
+        ("%W", format!("{:02}", weeks_from(1))),
+        ("%s", unix_time.to_string()),
+        ("%z", format!("{sign}{hours:02}{minutes:02}")),
+        ("%:z", with_colon.clone()),
+        (
+            "%Z",
+            if name.is_empty() {
+                with_colon
+            } else {
+                name.to_string()
+            },
+        ),
+        (
+            "%F",
+            format!("{}-{month:02}-{month_day:02}", year_text(year)),
+        ),
+        ("%D", format!("{month:02}/{month_day:02}/{century}")),
+        ("%T", "13:04:09".to_string()),
+        ("%H:%M:%S", "13:04:09".to_string()),
+        ("%R", "13:04".to_string()),
+        ("%3f", "012".to_string()),
+        ("%6f", "012345".to_string()),
+        ("%9f", "012345678".to_string()),
+        ("%.3f", ".012".to_string()),
+        ("%.6f", ".012345".to_string()),
+        ("%.9f", ".012345678".to_string()),
+        ("%n%t%%", "\n\t%".to_string()),
+    ]
+}
+
+#[test]
+fn each_conversion_prints_years_at_both_ends() {
+    let years = [
+        i32::MIN,
+        i32::MIN + 1,
+        -10_000,
+        -9999,
+        -1000,
+        -999,
+        -5,
+        -1,
+        0,
+        5,
+        999,
+        1000,
+        1970,
+        2000,
+        9999,
+        10_000,
+        i32::MAX - 1,
+        i32::MAX,
+    ];
+    let dates = [
+        (1, 1),
+        (1, 2),
+        (1, 3),
+        (1, 4),
+        (2, 28),
+        (3, 1),
+        (9, 30),
+        (12, 29),
+        (12, 30),
+        (12, 31),
+    ];
+    let types = [(20_700, "+0545"), (-89_999, ""), (i32::MAX, "")];
+    let check = |date: (i32, u8, u8), offset, name, print: &dyn Fn(Pattern<'_>) -> String| {
+        let (year, month, month_day) = (i64::from(date.0), i64::from(date.1), i64::from(date.2));
+        for (conversion, text) in plain_texts(year, month, month_day, offset, name) {
+            let printed = print(Pattern::new(conversion).unwrap());
+            assert_eq!(printed, text, "{conversion} of {date:?}");
+        }
+    };
+    for year in years {
+        for (month, day) in dates {
+            let utc = UtcDateTime::new(year, month, day, 13, 4, 9, 12_345_678).unwrap();
+            check((year, month, day), 0, "UTC", &|pattern| {
+                utc.format(pattern).to_string()
+            });
+            for (offset, name) in types {
+                let designation = (!name.is_empty()).then_some(name.as_bytes());
+                let local_time_type = LocalTimeType::new(offset, true, designation).unwrap();
+                let date_time =
+                    DateTime::new(year, month, day, 13, 4, 9, 12_345_678, local_time_type);
+                match date_time {
+                    Ok(it) => check((year, month, day), i64::from(offset), name, &|pattern| {
+                        it.format(pattern).to_string()
+                    }),
+                    // Its year in UTC is none of 32 bits.
+                    Err(_) => assert!(year <= i32::MIN + 69 || year >= i32::MAX - 69),
+                }
+            }
+        }
+    }
+}
+
 #[test]
 fn fractions_are_cut() {
     let texts = [
@@ -497,6 +684,7 @@ fn other_texts_are_not_read() {
         (pattern!("%F %A"), "2000-09-20 Monday", 11),
         (pattern!("%F %A"), "2000-09-20 Wednesdai", 19),
         (pattern!("%d %B %Y"), "1 March 2000", 1),
+        (pattern!("%e %b %Y"), "3 Nov 2000", 1),
         (pattern!("%d %B %Y"), "01 Marsh 2000", 6),
         (pattern!("%F %I %p"), "2000-09-20 00 AM", 11),
         (pattern!("%F %I %p"), "2000-09-20 13 PM", 11),

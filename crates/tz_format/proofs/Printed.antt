@@ -1,18 +1,20 @@
 -- How far a pattern is printed.
-use Rattle.std.proofs.Common.{arith, refl, ◌≡◌, ◌≢◌, ◌∙◌, ap, sym, subst, [], ℕ, ◌∷◌, ◌<◌, ◌≤◌, length, ◌+◌, ◌-◌, ◌++◌, List, get_or, drop, take, lit<, Option, Some, None, append_assoc, append-nil, length-append}
-use Rattle.std.specs.Prelude.{IsUtf8, option_map}
+use Rattle.std.proofs.Common.{arith, refl, ◌≡◌, ◌≢◌, ◌∙◌, ap, sym, subst, [], ℕ, suc, ◌∷◌, ◌<◌, ◌≤◌, length, ◌+◌, ◌-◌, ◌++◌, List, get_or, drop, take, lit<, Option, Some, None, append_assoc, append-nil, length-append}
+use Rattle.std.specs.Prelude.{IsUtf8, option_map, codes}
 use Rattle.std.proofs.lemmas.List.{get_or-drop, get_or-append-add, drop-drop, drop_all, length-drop}
 use Rattle.std.proofs.lemmas.Str.{IsUtf8-take, IsUtf8-drop, IsUtf8-append, IsUtf8-from_ascii, IsCharBoundary-before_ascii, IsCharBoundary-after_ascii}
 use Rattle.std.proofs.Math.Seq.{drop-append_seam, take-append_seam}
 use Rattle.std.proofs.Math.Nat.{add-zero}
-use Rattle.tz_format.specs.Conversions.{conversion_at}
+use Rattle.tz.specs.PrintedText.{two_digits}
+use Rattle.tz_format.specs.Conversions.{conversion_at, letter_conversion}
 use Rattle.tz_format.specs.Patterns.{items_of, first_unknown, text_of, width_of}
 use Rattle.tz_format.specs.Shown.{Shown, IsShown}
 use Rattle.tz_format.specs.Texts.{conversion_text}
 use Rattle.tz_format.specs.Widths.{conversion_width}
 use Rattle.tz_format.specs.declared.conversion.Conversion.{Conversion}
+use Rattle.tz_format.specs.declared.conversion.Conversion.TheVariants.{Hour, Minute, Second}
 use Rattle.tz_format.proofs.ConversionBytes.{conversion_ascii}
-use Rattle.tz_format.proofs.Items.{cut, byte_item, unknown_item, converted_item, no_item}
+use Rattle.tz_format.proofs.Items.{cut, byte_item, unknown_item, converted_item, no_item, conversion_after}
 
 -- the line has what the pattern prints up to a position, and room for the rest; it and what is left
 -- of the pattern are a text
@@ -120,6 +122,71 @@ conversion_printed pattern s position line c spelled h within percent is some in
           (IsUtf8-append line text around.0 (IsUtf8-from_ascii text (conversion_ascii s c shown)))
           (subst IsUtf8 rest around.1);
     }
+
+-- how many bytes two digits have, and a time of day
+pub two_long : (n : ℕ) → length (two_digits n) ≡ 2
+unfolding two_digits
+two_long n = refl
+
+time_long : (h m s : ℕ) → length (two_digits h ++ (58 ∷ two_digits m ++ (58 ∷ two_digits s))) ≡ 8
+unfolding two_digits
+time_long h m s = refl
+
+-- a colon and a conversion of one letter
+colon_printed : (pattern : List ℕ) (s : Shown) (position : ℕ) (line : List ℕ) (letter : ℕ) (rest : List ℕ)
+    (c : Conversion) → IsPrintedUpTo pattern s position line → drop position pattern ≡ 58 ∷ 37 ∷ letter ∷ rest
+    → letter < 128 → conversion_at (letter ∷ rest) 0 ≡ Some (c, 1) → IsShown s
+    → length (conversion_text s c) ≤ conversion_width c
+    → IsPrintedUpTo pattern s (position + 3) ((line ++ 58 ∷ []) ++ conversion_text s c)
+colon_printed pattern s position line letter rest c h is ascii spells shown short =
+    let len : length (drop position pattern) ≡ suc (suc (suc (length rest))) = ap length is in
+    let within : position + 2 < length pattern = omega (arith, length-drop position pattern, len) in
+    let at : (i : ℕ) → get_or pattern (position + i) 0 ≡ get_or (58 ∷ 37 ∷ letter ∷ rest) i 0 =
+    λ i. sym (get_or-drop position pattern i 0) ∙ ap (λ bytes. get_or bytes i 0) is in
+    let colon : get_or pattern position 0 ≡ 58 = ap (λ n. get_or pattern n 0) (sym (add-zero position)) ∙ at 0 in
+    let after : IsPrintedUpTo pattern s (position + 1) (line ++ 58 ∷ []) =
+    subst (λ byte. IsPrintedUpTo pattern s (position + 1) (line ++ byte ∷ [])) colon
+    (byte_printed pattern s position line h (omega (arith, within)) (λ is. absurd (omega (arith, is, colon)))) in
+    let two : position + 1 + 1 ≡ position + 2 = omega arith in
+    let three : position + 1 + 1 + 1 ≡ position + 3 = omega arith in
+    let last : position + 1 + 1 + 1 - 1 ≡ position + 2 = omega arith in
+    let letters : drop (position + 1 + 1) pattern ≡ letter ∷ rest =
+    ap (λ n. drop n pattern) two ∙ sym (drop-drop 2 position pattern) ∙ ap (drop 2) is in
+    subst (λ n. IsPrintedUpTo pattern s n ((line ++ 58 ∷ []) ++ conversion_text s c)) three
+    (conversion_printed pattern s (position + 1) (line ++ 58 ∷ []) c 1 after (omega (arith, within)) (at 1)
+    (sym (conversion_after pattern (position + 1 + 1)) ∙ ap (λ bytes. conversion_at bytes 0) letters ∙ spells)
+    (omega arith) (omega (arith, within))
+    (subst (λ byte. byte < 128) (sym (ap (λ n. get_or pattern n 0) last ∙ at 2)) ascii) shown short)
+
+-- the time of day, in one piece
+pub time_printed : (pattern : List ℕ) (s : Shown) (position : ℕ) (line : List ℕ) (spelled : ℕ) (rest : List ℕ)
+    → IsPrintedUpTo pattern s position line → position < length pattern → get_or pattern position 0 ≡ 37
+    → conversion_at pattern (position + 1) ≡ Some (Hour, spelled)
+    → 1 ≤ spelled → position + 1 + spelled ≤ length pattern → get_or pattern (position + 1 + spelled - 1) 0 < 128
+    → IsShown s → drop (position + 1 + spelled) pattern ≡ codes ":%M:%S" ++ rest
+    → (length line + 8 ≤ 128) × IsPrintedUpTo pattern s (position + 1 + spelled + 6) (line
+    ++ (two_digits s.fields.hour ++ (58 ∷ two_digits s.fields.minute ++ (58 ∷ two_digits s.fields.second))))
+unfolding conversion_text conversion_width conversion_at letter_conversion
+time_printed pattern s position line spelled rest h within percent is some inside last shown follows =
+    let f = s.fields in
+    let from = position + 1 + spelled in
+    let hour = conversion_printed pattern s position line Hour spelled h within percent is some inside last shown
+    (omega (arith, two_long f.hour)) in
+    let minute = colon_printed pattern s from (line ++ two_digits f.hour) 77 (58 ∷ 37 ∷ 83 ∷ rest) Minute hour follows
+    (lit< tt) refl shown (omega (arith, two_long f.minute)) in
+    let left : drop (from + 3) pattern ≡ 58 ∷ 37 ∷ 83 ∷ rest = sym (drop-drop 3 from pattern) ∙ ap (drop 3) follows in
+    let second = colon_printed pattern s (from + 3) (((line ++ two_digits f.hour) ++ 58 ∷ []) ++ two_digits f.minute)
+    83 rest Second minute left (lit< tt) refl shown (omega (arith, two_long f.second)) in
+    let places : from + 3 + 3 ≡ from + 6 = omega arith in
+    let text = two_digits f.hour ++ (58 ∷ two_digits f.minute ++ (58 ∷ two_digits f.second)) in
+    let joined : ((((line ++ two_digits f.hour) ++ 58 ∷ []) ++ two_digits f.minute) ++ 58 ∷ []) ++ two_digits f.second
+    ≡ line ++ text = simp append_assoc in
+    let all : IsPrintedUpTo pattern s (from + 6) (line ++ text) =
+    subst (λ n. IsPrintedUpTo pattern s n (line ++ text)) places
+    (subst (IsPrintedUpTo pattern s (from + 3 + 3)) joined second) in
+    let eight : length (line ++ text) ≡ length line + 8 =
+    length-append line text ∙ ap (λ n. length line + n) (time_long f.hour f.minute f.second) in
+    (omega (arith, eight, all.room), all)
 
 pub all_printed : (pattern : List ℕ) (s : Shown) (position : ℕ) (line : List ℕ) → IsPrintedUpTo pattern s position line
     → length pattern ≤ position → (line ≡ text_of pattern s) × IsUtf8 line

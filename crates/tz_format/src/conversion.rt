@@ -90,6 +90,7 @@ pub(crate) enum Conversion {
 }
 
 /// The conversion that one letter spells.
+#[inline(always)]
 #[tactic(auto, unfolding(crate::specs::Conversions::letter_conversion))]
 const fn of_letter(letter: u8) -> Option<Conversion>
     ensures value { result ≡ letter_conversion letter }
@@ -165,6 +166,7 @@ const fn fraction_at(text: &[u8], position: usize) -> Option<u8>
 }
 
 /// The conversion that the bytes from a position on spell, and how many of them do.
+#[inline(always)]
 #[tactic(auto, unfolding(crate::specs::Conversions::conversion_at))]
 pub(crate) const fn conversion_at(text: &[u8], position: usize) -> Option<(Conversion, usize)>
     requires { position ≤ length text.now }

@@ -1,7 +1,7 @@
 //! What conversions print.
 
 ghost use Rattle.std.specs.Prelude.{◌≡◌, ◌+◌, ◌-◌, ◌*◌, ◌/◌, ◌%◌, ◌^◌, ◌<◌, ◌≤◌, ◌∷◌, ◌++◌, [], length, ℤ, if◌then◌else◌};
-ghost use Rattle.std.specs.Prelude.{pos, unsigned_abs, None, codes, IsUtf8};
+ghost use Rattle.std.specs.Prelude.{pos, unsigned_abs, None, codes, IsUtf8, IsTrue, IfSome, OnSome, drop};
 ghost use Rattle.std.specs.Fmt.{signed_decimal};
 ghost use Rattle.tz.specs.PrintedText.{two_digits, nine_digits};
 ghost use Rattle.tz_base.specs.Fields.{IsValid};
@@ -13,9 +13,10 @@ ghost use Rattle.tz_format.specs.Texts.{year_of_century, spaced_digits, half_day
 ghost use Rattle.tz_format.specs.Texts.{three_digits, six_digits, hours_and_minutes};
 ghost use Rattle.tz_format.specs.Texts.{offset_digits, zone_text};
 ghost use Rattle.tz_format.specs.Widths.{conversion_width};
+ghost use Rattle.tz_format.specs.declared.conversion.Conversion.TheVariants.{Hour};
 
 use crate::conversion::{Conversion, conversion_at};
-use crate::line::Line;
+use crate::line::{Line, pair_of};
 use crate::moment::Moment;
 use crate::weeks::{days_since_monday, week_of, week_of_year};
 use tz_base::fields::Fields;
@@ -67,6 +68,33 @@ fn year_of_century(year: i64) -> u8
     year.rem_euclid(100) as u8
 }
 
+/// The hour on a clock of twelve hours.
+const fn half_day_hour(hour: u8) -> u8
+    requires { hour < 24 }
+    ensures value { result ≡ half_day_hour hour }
+    ensures bound { result < 100 }
+{
+    (hour + 11) % 12 + 1
+}
+
+/// A fraction of a second, cut to milliseconds.
+const fn milliseconds_of(nanoseconds: u32) -> u16
+    requires { nanoseconds < 1000000000 }
+    ensures value { result ≡ nanoseconds / 1000000 }
+    ensures bound { result < 1000 }
+{
+    (nanoseconds / 1_000_000) as u16
+}
+
+/// A fraction of a second, cut to microseconds.
+const fn microseconds_of(nanoseconds: u32) -> u32
+    requires { nanoseconds < 1000000000 }
+    ensures value { result ≡ nanoseconds / 1000 }
+    ensures bound { result < 1000000 }
+{
+    nanoseconds / 1000
+}
+
 impl Line {
     /// Appends a name's first three letters.
     fn push_short(&mut self, name: &str)
@@ -75,7 +103,10 @@ impl Line {
         ensures text { self.new ≡ self.old ++ short name.now }
         ensures len { length self.new ≡ length self.old + 3 }
     {
-        self.push_all(&name.as_bytes()[..3]);
+        // Bytes of an array of its own need no test for an overlap with the line.
+        let mut letters = [0; 3];
+        letters.copy_from_slice(&name.as_bytes()[..3]);
+        self.push_all(&letters);
     }
 
     /// Appends a number below 100 in two bytes, with a space in the place of a first zero.
@@ -135,8 +166,9 @@ impl Line {
         ensures len { length self.new ≤ length self.old + 10 }
     {
         if number < 10_000 {
-            self.push_two_digits((number / 100) as u8);
-            self.push_two_digits((number % 100) as u8);
+            let front = pair_of((number / 100) as u8);
+            let back = pair_of((number % 100) as u8);
+            self.push_all(&[front[0], front[1], back[0], back[1]]);
         } else {
             self.push_digits(number);
         }
@@ -156,20 +188,15 @@ impl Line {
         self.push_four_digits_or_more(year.unsigned_abs());
     }
 
-    /// Appends hours and minutes, with a colon between or not.
+    /// Appends 100 hours or more and minutes, with a colon between or not.
     #[tactic(auto, using(crate::proofs::Digits::digits_below_10_6), unfolding(tz::specs::PrintedText::two_digits_or_more, crate::specs::Texts::hours_and_minutes))]
-    fn push_hours_and_minutes(&mut self, colon: bool, seconds: u32)
-        requires below { seconds < 2 ^ 31 }
+    fn push_long_hours_and_minutes(&mut self, colon: bool, seconds: u32)
+        requires bounds { (360000 ≤ seconds) × (seconds < 2 ^ 31) }
         requires room { length self.old + (if colon then 9 else 8) ≤ 128 }
         ensures text { self.new ≡ self.old ++ hours_and_minutes colon seconds }
         ensures len { length self.new ≤ length self.old + (if colon then 9 else 8) }
     {
-        let hours = seconds / 3600;
-        if hours < 100 {
-            self.push_two_digits(hours as u8);
-        } else {
-            self.push_digits(u64::from(hours));
-        }
+        self.push_digits(u64::from(seconds / 3600));
         if colon {
             self.push(b':');
         }
@@ -178,6 +205,27 @@ impl Line {
 }
 
 impl Line {
+    /// Appends a sign, hours and minutes, with a colon between these or not.
+    fn push_signed(&mut self, sign: u8, colon: bool, seconds: u32)
+        requires below { seconds < 2 ^ 31 }
+        requires room { length self.old + (if colon then 10 else 9) ≤ 128 }
+        ensures text { self.new ≡ self.old ++ sign ∷ hours_and_minutes colon seconds }
+        ensures len { length self.new ≤ length self.old + (if colon then 10 else 9) }
+    {
+        if seconds < 360_000 {
+            let hours = pair_of((seconds / 3600) as u8);
+            let minutes = pair_of((seconds / 60 % 60) as u8);
+            if colon {
+                self.push_all(&[sign, hours[0], hours[1], b':', minutes[0], minutes[1]]);
+            } else {
+                self.push_all(&[sign, hours[0], hours[1], minutes[0], minutes[1]]);
+            }
+        } else {
+            self.push(sign);
+            self.push_long_hours_and_minutes(colon, seconds);
+        }
+    }
+
     /// Appends an offset's sign, its hours and its minutes, with a colon between or not.
     #[tactic(auto, unfolding(crate::specs::Texts::offset_digits))]
     fn push_offset(&mut self, colon: bool, ut_offset: i32)
@@ -186,8 +234,8 @@ impl Line {
         ensures text { self.new ≡ self.old ++ offset_digits colon ut_offset }
         ensures len { length self.new ≤ length self.old + (if colon then 10 else 9) }
     {
-        self.push(if ut_offset < 0 { b'-' } else { b'+' });
-        self.push_hours_and_minutes(colon, ut_offset.unsigned_abs());
+        let sign = if ut_offset < 0 { b'-' } else { b'+' };
+        self.push_signed(sign, colon, ut_offset.unsigned_abs());
     }
 
     /// Appends a name, or the offset if it is empty.
@@ -271,16 +319,19 @@ impl Line {
             ∷ two_digits fields.now.minute ++ (58 ∷ two_digits fields.now.second))) }
         ensures len { length self.new ≡ length self.old + 8 }
     {
-        self.push_time_to_minutes(fields);
-        self.push(b':');
-        self.push_two_digits(fields.second);
+        let hour = pair_of(fields.hour);
+        let (minute, second) = (pair_of(fields.minute), pair_of(fields.second));
+        self.push_all(&[
+            hour[0], hour[1], b':', minute[0], minute[1], b':', second[0], second[1],
+        ]);
     }
 }
 
 impl Line {
-    /// Appends what a conversion prints.
+    /// Appends what a conversion prints, one by one.
+    #[inline(never)]
     #[tactic(auto, unfolding(crate::specs::Texts::conversion_text, crate::specs::Widths::conversion_width))]
-    fn push_conversion(&mut self, conversion: Conversion, moment: &Moment<'_>)
+    fn push_any_conversion(&mut self, conversion: Conversion, moment: &Moment<'_>)
         requires shown { IsShown (shown_of moment.now) }
         requires room { length self.old + conversion_width conversion ≤ 128 }
         ensures text { self.new ≡ self.old ++ conversion_text (shown_of moment.now) conversion }
@@ -304,7 +355,7 @@ impl Line {
             Conversion::YearDay => self.push_three_digits(fields.year_day() + 1),
             Conversion::Hour => self.push_two_digits(fields.hour),
             Conversion::SpacedHour => self.push_spaced(fields.hour),
-            Conversion::HalfDayHour => self.push_two_digits((fields.hour + 11) % 12 + 1),
+            Conversion::HalfDayHour => self.push_two_digits(half_day_hour(fields.hour)),
             Conversion::HalfDay => self.push_all(if fields.hour < 12 { b"AM" } else { b"PM" }),
             Conversion::Minute => self.push_two_digits(fields.minute),
             Conversion::Second => self.push_two_digits(fields.second),
@@ -330,17 +381,17 @@ impl Line {
             Conversion::Time => self.push_time(fields),
             Conversion::TimeToMinutes => self.push_time_to_minutes(fields),
             Conversion::Milliseconds => {
-                self.push_three_digits((fields.nanoseconds / 1_000_000) as u16);
+                self.push_three_digits(milliseconds_of(fields.nanoseconds));
             }
-            Conversion::Microseconds => self.push_six_digits(fields.nanoseconds / 1000),
+            Conversion::Microseconds => self.push_six_digits(microseconds_of(fields.nanoseconds)),
             Conversion::Nanoseconds => self.push_nine_digits(fields.nanoseconds),
             Conversion::PointMilliseconds => {
                 self.push(b'.');
-                self.push_three_digits((fields.nanoseconds / 1_000_000) as u16);
+                self.push_three_digits(milliseconds_of(fields.nanoseconds));
             }
             Conversion::PointMicroseconds => {
                 self.push(b'.');
-                self.push_six_digits(fields.nanoseconds / 1000);
+                self.push_six_digits(microseconds_of(fields.nanoseconds));
             }
             Conversion::PointNanoseconds => {
                 self.push(b'.');
@@ -351,6 +402,58 @@ impl Line {
             Conversion::Percent => self.push(b'%'),
         }
     }
+
+    /// Appends what a conversion prints, the usual ones here, where no register has to be saved for
+    /// a call. In the loop over a pattern LLVM would compute before it what all conversions need.
+    #[inline(never)]
+    #[tactic(auto, unfolding(crate::specs::Texts::conversion_text, crate::specs::Widths::conversion_width))]
+    fn push_conversion(&mut self, conversion: Conversion, moment: &Moment<'_>)
+        requires shown { IsShown (shown_of moment.now) }
+        requires room { length self.old + conversion_width conversion ≤ 128 }
+        ensures text { self.new ≡ self.old ++ conversion_text (shown_of moment.now) conversion }
+        ensures len { length self.new ≤ length self.old + conversion_width conversion }
+    {
+        match conversion {
+            Conversion::Year => self.push_year(i64::from(moment.fields.year)),
+            Conversion::ShortMonthName => self.push_short(month_name(moment.fields.month)),
+            Conversion::Offset => self.push_offset(false, moment.ut_offset),
+            _ => self.push_any_conversion(conversion, moment),
+        }
+    }
+}
+
+/// The number that a conversion prints as two digits, of those that most patterns have.
+#[tactic(auto, unfolding(crate::specs::Texts::conversion_text, crate::specs::Widths::conversion_width))]
+fn two_digits_of(conversion: Conversion, moment: &Moment<'_>) -> Option<u8>
+    requires { IsShown (shown_of moment.now) }
+    ensures below { IfSome result (λ number. number < 100) }
+    ensures text { IfSome result (λ number. conversion_text (shown_of moment.now) conversion
+        ≡ two_digits number) }
+    ensures width { OnSome result (conversion_width conversion ≡ 2) }
+{
+    match conversion {
+        Conversion::Month => Some(moment.fields.month),
+        Conversion::MonthDay => Some(moment.fields.month_day),
+        Conversion::Hour => Some(moment.fields.hour),
+        Conversion::Minute => Some(moment.fields.minute),
+        Conversion::Second => Some(moment.fields.second),
+        _ => None,
+    }
+}
+
+/// Whether the conversion begins the time of day, as `%H:%M:%S` does in most patterns.
+fn begins_time(conversion: Conversion, pattern: &[u8], position: usize) -> bool
+    requires { position ≤ length pattern.now }
+    ensures hour { IsTrue result → conversion ≡ Hour }
+    ensures rest { IsTrue result
+        → drop position pattern.now ≡ codes ":%M:%S" ++ drop 6 (drop position pattern.now) }
+{
+    if !matches!(conversion, Conversion::Hour) {
+        return false;
+    }
+    let rest = &pattern[position..];
+    // Six bytes at once would be compared in three parts.
+    rest.starts_with(b":%M:") && rest[4..].starts_with(b"%S")
 }
 
 /// Appends what a pattern prints.
@@ -371,8 +474,15 @@ pub(crate) fn push_pattern(line: &mut Line, pattern: &str, moment: &Moment<'_>)
             let Some((conversion, spelled)) = conversion_at(pattern, position) else {
                 return;
             };
-            line.push_conversion(conversion, moment);
             position += spelled;
+            if begins_time(conversion, pattern, position) {
+                line.push_time(&moment.fields);
+                position += 6;
+            } else if let Some(number) = two_digits_of(conversion, moment) {
+                line.push_two_digits(number);
+            } else {
+                line.push_conversion(conversion, moment);
+            }
         } else {
             line.push(byte);
         }

@@ -32,6 +32,14 @@ pub(crate) const fn text(bytes: &[u8]) -> &str {
     }
 }
 
+/// The text of the first bytes, which the proof shows to be text. Rust checks 16 bytes at once, and those left over one by one: so the bytes up to the
+/// next multiple of 16 are checked with them, which are zeros in a new line.
+#[inline]
+pub(crate) fn text_before(bytes: &[u8; 128], len: usize) -> &str {
+    let blocks = core::str::from_utf8(&bytes[..len.next_multiple_of(16)]);
+    blocks.map_or_else(|_| text(&bytes[..len]), |whole| &whole[..len])
+}
+
 /// The lesser of two numbers, in constants too.
 macro_rules! least {
     ($left:expr, $right:expr) => {{

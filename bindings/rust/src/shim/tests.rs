@@ -1,7 +1,7 @@
 //! Each call of the shim, at its ends, and with allocations that fail.
 
 use super::alloc::AllocError;
-use super::{ArrayString, greatest, least, narrow, text};
+use super::{ArrayString, greatest, least, narrow, text, text_before};
 use core::fmt::Write;
 use std::format;
 
@@ -37,6 +37,18 @@ fn text_is_its_bytes() {
             "aé€x0123456789abcdefghijklmnopqrstuvwxyzABCDEFGHIJKLMNOPQRSTUVWXYZ0123456789";
         if let Some(front) = letters.get(..len) {
             assert_eq!(text(front.as_bytes()), front);
+        }
+    }
+}
+
+#[test]
+fn text_before_a_position_is_its_bytes() {
+    let letters = "aé€x🕔0123456789abcdefghijklmnopqrstuvwxyz".repeat(4);
+    for rest in [b'a', 0, 0x80, 0xff] {
+        for len in (0..=128).filter(|len| letters.is_char_boundary(*len)) {
+            let mut bytes = [rest; 128];
+            bytes[..len].copy_from_slice(&letters.as_bytes()[..len]);
+            assert_eq!(text_before(&bytes, len), &letters[..len]);
         }
     }
 }
@@ -119,7 +131,7 @@ mod of_alloc {
         items.extend_from_slice(&[100, 101, 102]).unwrap();
         items.extend_from_slice(&[]).unwrap();
         items.reserve(1).unwrap();
-        items.push_reserved(103);
+        items.extend([103].into_iter()).unwrap();
         assert!(items.as_slice().iter().copied().eq(0..104));
         items[3] = 7;
         assert_eq!(items[3], 7);
