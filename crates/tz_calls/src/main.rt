@@ -18,6 +18,7 @@ use tz::{
     DateTime, Error, ParsedDateTime, TimeZone, TimeZoneRef, TimeZoneSettings, TzError, TzString,
     UtcDateTime, timezone,
 };
+use tz_format::constants::common_log;
 
 #[derive(Clone, Copy, Drop)]
 struct Local {
@@ -49,6 +50,7 @@ struct Words {
     date_times: Vec<DateTime>,
     utc_date_times: Vec<UtcDateTime>,
     printed: Vec<String>,
+    logged: Vec<String>,
 }
 
 fn sum_of_fields(year: i32, month: u8, month_day: u8, hour: u8, minute: u8, second: u8) -> u64 {
@@ -235,6 +237,17 @@ fn display(alloc: Global, date_times: &[DateTime]) -> Result<u64, TzError> {
     Ok(sum)
 }
 
+/// The length of a line of the Common Log Format, in a new string.
+fn format_log(alloc: Global, date_times: &[DateTime]) -> Result<u64, TzError> {
+    let pattern = common_log();
+    let mut sum = 0u64;
+    for date_time in date_times {
+        let line = pattern.format(date_time);
+        sum = sum.wrapping_add(format!(in alloc; "{line}")?.len() as u64);
+    }
+    Ok(sum)
+}
+
 /// Makes a zone of a file's bytes for each word.
 fn from_tz_data(alloc: Global, words: &[i64], bytes: &[u8]) -> Result<u64, TzError> {
     let mut sum = 0u64;
@@ -327,6 +340,19 @@ fn parse(texts: &[String]) -> Result<u64> {
     for text in texts {
         let parsed = ParsedDateTime::parse(text.as_bytes())?;
         let unix_time = parsed.unix_time().context("offset")?;
+        sum = sum.wrapping_add(unix_time.cast_unsigned());
+    }
+    Ok(sum)
+}
+
+/// The Unix time of each line of the Common Log Format.
+fn read_log(texts: &[String]) -> Result<u64> {
+    let pattern = common_log();
+    let mut sum = 0u64;
+    for text in texts {
+        let read = pattern.read(text.as_bytes())?;
+        let ut_offset = i64::from(read.ut_offset().context("offset")?);
+        let unix_time = read.local().unix_time().wrapping_sub(ut_offset);
         sum = sum.wrapping_add(unix_time.cast_unsigned());
     }
     Ok(sum)
@@ -471,6 +497,7 @@ fn sum_of(
     let date_times = words.date_times.get(first..last).context("words")?;
     let utc_date_times = words.utc_date_times.get(first..last).context("words")?;
     let printed = words.printed.get(first..last).context("words")?;
+    let logged = words.logged.get(first..last).context("words")?;
     Ok(match call {
         "instant" => sum_of_instants(instants),
         "local" => sum_of_locals(locals),
@@ -492,6 +519,8 @@ fn sum_of(
         "walk_back" => walk_back(instants, zone),
         "display" => display(alloc, date_times)?,
         "parse" => parse(printed)?,
+        "format_log" => format_log(alloc, date_times)?,
+        "read_log" => read_log(logged)?,
         "from_tz_data" => from_tz_data(alloc, instants, bytes)?,
         "from_posix_tz" => from_posix_tz(rt, instants, argument)?,
         "failing_reader" => failing_reader(alloc, instants, argument)?,
@@ -513,6 +542,7 @@ fn read_words(rt: &HostRuntime, is_local: bool, zone: TimeZoneRef<'_>) -> Result
         date_times: Vec::new(alloc),
         utc_date_times: Vec::new(alloc),
         printed: Vec::new(alloc),
+        logged: Vec::new(alloc),
     };
     for line in text.lines() {
         let word = line.parse::<i64>().context("words")?;
@@ -523,6 +553,8 @@ fn read_words(rt: &HostRuntime, is_local: bool, zone: TimeZoneRef<'_>) -> Result
             .push(local_of(if is_local { word.unsigned_abs() } else { 0 })?)?;
         let date_time = DateTime::from_timespec(instant, 7, zone)?;
         words.printed.push(format!(in alloc; "{date_time}")?)?;
+        let logged = common_log().format(&date_time);
+        words.logged.push(format!(in alloc; "{logged}")?)?;
         words.date_times.push(date_time)?;
         words
             .utc_date_times
