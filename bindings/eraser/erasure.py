@@ -158,13 +158,29 @@ EXACT = {
             "        return Some((i64::from(number), &bytes[end..]));\n    } }",
         ),
     ),
+    # The bytes after a line are zeros, with which Rust checks the text sooner.
+    "crates/tz_format/src/line.rt": (
+        (
+            "unsafe { str::from_utf8_unchecked(self.as_bytes()) }",
+            "crate::shim::text_before(&self.bytes, self.len)",
+        ),
+        ("use std::str;\n", ""),
+    ),
+    # inline.txt has both: rustc makes a table of the letters if it compiles them by themselves first.
+    "crates/tz_format/src/conversion.rt": tuple(
+        (f"#[inline(always)]\n{tactic}", tactic)
+        for tactic in (
+            "#[tactic(auto, unfolding(crate::specs::Conversions::letter_conversion))]",
+            "#[tactic(auto, unfolding(crate::specs::Conversions::conversion_at))]",
+        )
+    ),
     # The program with zones of its own ends as the proved one does.
     "crates/tz_query/src/query/program.rt": (
         ("\nfn fail<E: Write>(", "\npub(crate) fn fail<E: Write>("),
         ("\nfn line_of(", "\npub(crate) fn line_of("),
     ),
     "crates/tz_query/src/query/mod.rt": (("mod program;", "pub(crate) mod program;"),),
-    "crates/tz_query/src/query/answers.rt": (
+    "crates/tz_query/src/query/suffixes.rt": (
         ("local_time_type.ut_offset().cast_unsigned()", "local_time_type.ut_offset() as u32"),
     ),
 }
@@ -212,10 +228,10 @@ ALLOWED = {
     # A proof reads the field.
     "crates/tz/src/datetime/find.rt": {"Refused": ("dead_code",)},
     "crates/tz/src/parse.rt": {"read_printed": ("clippy::manual_range_contains",)},
-    "crates/tz/src/text_buffer.rt": {
+    "crates/tz_base/src/calendar.rt": {"days_before_moved_year": ("clippy::manual_div_ceil",)},
+    "crates/tz_base/src/text_buffer.rt": {
         "TextBuffer::push_decimal": ("clippy::manual_range_contains",)
     },
-    "crates/tz_base/src/calendar.rt": {"days_before_moved_year": ("clippy::manual_div_ceil",)},
     "crates/tz_format/src/lenient.rt": {"is_name_byte": ("clippy::manual_range_contains",)},
     "crates/tz_format/src/read.rt": {"nearest": ("clippy::manual_clamp",)},
     "crates/tz_zone/src/parse/tz_string.rt": {"read_daylight": ("clippy::type_complexity",)},
