@@ -8,20 +8,19 @@ use crate::proved::tz_c::date_time_data::DateTimeData;
 use crate::proved::tz_c::searches::choice_of;
 use crate::proved::tz_c::zone_data::TzZone;
 use tz::proved::tz::datetime::Disambiguation;
-use tz::proved::tz::inner::{Fields, find_one, local_reading};
+use tz::proved::tz::inner::{Fields, find_one, local_reading, write_offsets};
 use tz::proved::tz_base::constants::{NANOSECONDS_PER_SECOND, SECONDS_PER_DAY};
 use tz::proved::tz_base::error::TzError;
 use tz::proved::tz_rule::timezone::LocalTimeType;
 use tz::proved::tz_zone::timezone::Segment;
 
-/// The segment of the zone's clock that holds an instant: the one before, if it holds the instant
-/// too.
+/// The segment of the zone's clock that holds an instant: `before`, if it holds the instant.
 #[inline(always)]
 fn segment_around<'a>(zone: &TzZone<'a>, before: Segment<'a>, unix_time: i64) -> Segment<'a> {
     if before.contains(unix_time) {
         before
     } else {
-        zone.lent().segment_at(unix_time)
+        zone.as_zone_data().segment_at(unix_time)
     }
 }
 
@@ -34,20 +33,13 @@ fn type_in<'a>(
 ) -> Result<&'a LocalTimeType, TzError> {
     match segment.local_time_type() {
         Some(local_time_type) => Ok(local_time_type),
-        None => zone.lent().find_local_time_type(unix_time),
+        None => zone.as_zone_data().find_local_time_type(unix_time),
     }
 }
 
-/// The offset of the zone's clock at an instant of a segment.
-#[inline(always)]
-fn offset_in(zone: &TzZone<'_>, segment: &Segment<'_>, unix_time: i64, out: &mut i32) -> u32 {
-    match type_in(zone, segment, unix_time) {
-        Ok(local_time_type) => {
-            *out = local_time_type.ut_offset();
-            OK
-        }
-        Err(error) => code_of(&error),
-    }
+/// Clears the codes.
+fn clear(codes: &mut [u32]) {
+    codes.fill(OK);
 }
 
 /// A day, by its date, and its first reading.
@@ -72,7 +64,7 @@ fn day_of(reading: i64) -> Day {
     }
 }
 
-/// The day of a reading: the one before, if the reading is one of that.
+/// The day of a reading: `before`, if the reading is in that day.
 #[inline(always)]
 fn day_around(before: Day, reading: i64) -> Day {
     if before.start <= reading && reading - before.start < SECONDS_PER_DAY {
@@ -139,7 +131,7 @@ fn instant_of(
     zone: &TzZone<'_>,
     out: &mut i64,
 ) -> u32 {
-    match find_one(fields, disambiguation, &zone.lent()) {
+    match find_one(fields, disambiguation, &zone.as_zone_data()) {
         Ok(Some(date_time)) => {
             *out = DateTimeData::of(&date_time).unix_time;
             OK
@@ -160,12 +152,12 @@ pub fn tz_column_offsets(
     if offsets.len() != unix_times.len() || codes.len() != unix_times.len() {
         return BUFFER_LENGTH;
     }
-    let mut segment = zone
-        .lent()
-        .segment_at(unix_times.first().copied().unwrap_or(0));
-    for i in 0..unix_times.len() {
-        segment = segment_around(zone, segment, unix_times[i]);
-        codes[i] = offset_in(zone, &segment, unix_times[i], &mut offsets[i]);
+    clear(codes);
+    let data = zone.as_zone_data();
+    let mut first = 0;
+    while let Err(unanswered) = write_offsets(unix_times, first, &data, offsets) {
+        codes[unanswered.index] = code_of(&unanswered.error);
+        first = unanswered.index + 1;
     }
     OK
 }
@@ -186,7 +178,7 @@ pub fn tz_column_date_times(
         return BUFFER_LENGTH;
     }
     let mut segment = zone
-        .lent()
+        .as_zone_data()
         .segment_at(unix_times.first().copied().unwrap_or(0));
     let mut day = day_of(0);
     for i in 0..unix_times.len() {

@@ -12,7 +12,8 @@ use tz::proved::tz_rule::timezone::LocalTimeType;
 pub struct UtcData {
     /// The fields.
     pub(crate) fields: Fields,
-    /// Their reading.
+    /// The reading of the fields: the seconds from 1970-01-01T00:00:00 to them, where second 60 is
+    /// the next minute's second 0.
     pub(crate) unix_time: i64,
 }
 
@@ -24,7 +25,7 @@ pub struct DateTimeData {
     pub(crate) fields: Fields,
     /// The type that shows them.
     pub(crate) local_time_type: LocalTimeType,
-    /// Its Unix time.
+    /// The Unix time of the date time.
     pub(crate) unix_time: i64,
 }
 

@@ -63,7 +63,7 @@ pub fn tz_date_time_from_timespec(
     if nanoseconds >= NANOSECONDS_PER_SECOND {
         return INVALID_NANOSECONDS;
     }
-    let local_time_type = match zone.lent().find_local_time_type(unix_time) {
+    let local_time_type = match zone.as_zone_data().find_local_time_type(unix_time) {
         Ok(local_time_type) => local_time_type,
         Err(error) => return code_of(&error),
     };
@@ -203,7 +203,7 @@ impl ParsedData {
         }
     }
 
-    /// The data of what is read.
+    /// The data of a text that was read.
     fn of(parsed: &ParsedDateTime) -> Self {
         ParsedData::new(&parsed.local(), parsed.ut_offset())
     }

@@ -16,7 +16,7 @@ pub struct DateData {
     month_day: u8,
 }
 
-/// The data of a date.
+/// The year, month and day of a date, laid out for C.
 fn written(date: Date) -> DateData {
     let (year, month, month_day) = parts_of(date);
     DateData {
@@ -39,7 +39,7 @@ pub fn tz_zone_start_of_day(zone: &TzZone<'_>, date: &DateData, unix_time: &mut 
         Ok(date) => date,
         Err(error) => return code_of(&error),
     };
-    match first_of_day(&zone.lent(), date.day_number()) {
+    match first_of_day(&zone.as_zone_data(), date.day_number()) {
         Ok(Some(start)) => {
             *unix_time = start.unix_time;
             OK

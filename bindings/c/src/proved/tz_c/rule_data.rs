@@ -40,25 +40,25 @@ impl RuleData {
 }
 
 /// The rule with the parts of an alternate rule's data.
-fn rule_of_plain(plain: &AlternateData) -> AlternateTime {
-    plain.parts_are_sound();
+fn alternate_time_of(rule: &AlternateData) -> AlternateTime {
+    rule.parts_are_sound();
     match AlternateTime::new(
-        *plain.std(),
-        *plain.dst(),
-        plain.dst_start().day(),
-        plain.dst_start_time(),
-        plain.dst_end().day(),
-        plain.dst_end_time(),
+        *rule.std(),
+        *rule.dst(),
+        rule.dst_start().day(),
+        rule.dst_start_time(),
+        rule.dst_end().day(),
+        rule.dst_end_time(),
     ) {
         Ok(rule) => rule,
         Err(_) => unreachable!(),
     }
 }
 
-/// The rule that is lent.
-pub(crate) fn rule_of(lent: RuleRef<'_>) -> TransitionRule {
-    match lent {
+/// A copy of a borrowed rule.
+pub(crate) fn rule_of(rule: RuleRef<'_>) -> TransitionRule {
+    match rule {
         RuleRef::Fixed(local_time_type) => TransitionRule::Fixed(*local_time_type),
-        RuleRef::Alternate(plain) => TransitionRule::Alternate(rule_of_plain(plain)),
+        RuleRef::Alternate(rule) => TransitionRule::Alternate(alternate_time_of(rule)),
     }
 }

@@ -7,7 +7,8 @@ use crate::proved::tz_c::zone_data::TzZone;
 use tz::proved::tz::datetime::Disambiguation;
 use tz::proved::tz::inner::{Fields, find_into, find_one};
 
-/// What is found of the fields from one of the entries on, and how many entries there are.
+/// Writes the entries that a search finds of the fields, without the first `skip`, to the slots as
+/// far as they go, and counts all.
 #[inline(always)]
 pub fn tz_find_n(
     fields: &Fields,
@@ -16,7 +17,7 @@ pub fn tz_find_n(
     slots: &mut [FoundData],
     count: &mut usize,
 ) -> u32 {
-    match find_into(slots, skip, fields, &zone.lent()) {
+    match find_into(slots, skip, fields, &zone.as_zone_data()) {
         Ok(found) => {
             *count = found;
             OK
@@ -25,7 +26,7 @@ pub fn tz_find_n(
     }
 }
 
-/// The choice with a number.
+/// The choice that has the number in C.
 pub(crate) fn choice_of(choice: u8) -> Option<Disambiguation> {
     match choice {
         0 => Some(Disambiguation::Compatible),
@@ -42,7 +43,7 @@ pub fn tz_find_one(fields: &Fields, choice: u8, zone: &TzZone<'_>, out: &mut Dat
     let Some(disambiguation) = choice_of(choice) else {
         return UNKNOWN_CHOICE;
     };
-    match find_one(fields, disambiguation, &zone.lent()) {
+    match find_one(fields, disambiguation, &zone.as_zone_data()) {
         Ok(Some(date_time)) => {
             *out = DateTimeData::of(&date_time);
             OK

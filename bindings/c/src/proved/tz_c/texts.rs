@@ -11,7 +11,7 @@ use tz::proved::tz::inner::{TextBuffer, fields_of, utc_fields_of};
 use tz::proved::tz::{DateTime, TzString, UtcDateTime};
 use tz::proved::tz_rule::inner::AlternateData;
 use tz::proved::tz_rule::timezone::LocalTimeType;
-use tz::proved::tz_zone::inner::{FileSizes, file_sizes, parse_posix_tz, plain};
+use tz::proved::tz_zone::inner::{FileSizes, ZoneData, file_sizes, parse_posix_tz};
 use tz::proved::tz_zone::timezone::{LeapSecond, TimeZone, Transition, is_zone_name};
 use tz::shim::alloc::Global;
 
@@ -74,15 +74,16 @@ pub fn tz_name_check(name: &[u8]) -> u32 {
     }
 }
 
-/// What a setting asks for.
+/// How the text of a setting, such as that of `TZ`, names a zone, and which bytes of it are the
+/// name.
 #[repr(C)]
 #[derive(Clone, Copy)]
 pub struct SettingData {
     /// 0: the machine's local time, 1: a file, 2: a file or a TZ string.
     kind: u32,
-    /// Where its name begins.
+    /// The index of the name's first byte in the text.
     from: usize,
-    /// Where it ends.
+    /// The index after the name's last byte.
     until: usize,
 }
 
@@ -91,7 +92,7 @@ fn is_local_time(text: &[u8]) -> bool {
     text == b"localtime".as_slice()
 }
 
-/// What a setting asks for.
+/// How the text of a setting names a zone.
 #[inline(always)]
 pub fn tz_setting_read(text: &[u8], out: &mut SettingData) -> u32 {
     if text.is_empty() {
@@ -150,7 +151,7 @@ pub fn tz_file_read(
             local_time_types.copy_from_slice(read.local_time_types());
             leap_seconds.copy_from_slice(read.leap_seconds());
             *rule = RuleData::of(read.extra_rule());
-            let (least, greatest) = plain(&read).offsets();
+            let (least, greatest) = ZoneData::of(&read).offsets();
             *out = OffsetsData { least, greatest };
             OK
         }

@@ -14,7 +14,7 @@ pub struct TzZone<'a> {
 
 impl<'a> TzZone<'a> {
     /// The zone as calls of the library take it.
-    pub(crate) fn lent(&self) -> inner::ZoneData<'a> {
+    pub(crate) fn as_zone_data(&self) -> inner::ZoneData<'a> {
         inner::ZoneData::from_valid_parts(
             self.parts.transitions,
             self.parts.local_time_types,

@@ -9,7 +9,7 @@ use tz::proved::tz_rule::inner::{AlternateData, DayData, RuleRef, find_local_tim
 use tz::proved::tz_rule::timezone::{
     AlternateTime, Julian0WithLeap, Julian1WithoutLeap, LocalTimeType, MonthWeekDay, RuleDay,
 };
-use tz::proved::tz_zone::inner::{self, effect, leap};
+use tz::proved::tz_zone::inner::{self, effect, unix_time_to_unix_leap_time};
 use tz::proved::tz_zone::timezone::{Change, LeapSecond, Segment, Transition};
 
 /// The local time type with these parts, as `LocalTimeType::new` makes it.
@@ -261,7 +261,7 @@ pub fn tz_zone_check(parts: &PartsData<'_>, out: &mut OffsetsData) -> u32 {
 /// The type of a zone's clock at an instant, as `TimeZoneRef::find_local_time_type` finds it.
 #[inline(always)]
 pub fn tz_zone_type_at(zone: &TzZone<'_>, unix_time: i64, out: &mut LocalTimeType) -> u32 {
-    match zone.lent().find_local_time_type(unix_time) {
+    match zone.as_zone_data().find_local_time_type(unix_time) {
         Ok(local_time_type) => {
             *out = *local_time_type;
             OK
@@ -273,14 +273,14 @@ pub fn tz_zone_type_at(zone: &TzZone<'_>, unix_time: i64, out: &mut LocalTimeTyp
 /// The segment around an instant, as `TimeZoneRef::segment_at` finds it.
 #[inline(always)]
 pub fn tz_zone_segment_at(zone: &TzZone<'_>, unix_time: i64, out: &mut SegmentData) -> u32 {
-    *out = SegmentData::of(&zone.lent().segment_at(unix_time));
+    *out = SegmentData::of(&zone.as_zone_data().segment_at(unix_time));
     OK
 }
 
 /// The first change after an instant, as `TimeZoneRef::following` finds it.
 #[inline(always)]
 pub fn tz_zone_following(zone: &TzZone<'_>, unix_time: i64, out: &mut ChangeData) -> u32 {
-    match zone.lent().following(unix_time) {
+    match zone.as_zone_data().following(unix_time) {
         Some(change) => {
             *out = ChangeData::of(&change);
             OK
@@ -292,7 +292,7 @@ pub fn tz_zone_following(zone: &TzZone<'_>, unix_time: i64, out: &mut ChangeData
 /// The last change before an instant, as `TimeZoneRef::preceding` finds it.
 #[inline(always)]
 pub fn tz_zone_preceding(zone: &TzZone<'_>, unix_time: i64, out: &mut ChangeData) -> u32 {
-    match zone.lent().preceding(unix_time) {
+    match zone.as_zone_data().preceding(unix_time) {
         Some(change) => {
             *out = ChangeData::of(&change);
             OK
@@ -312,7 +312,7 @@ fn index_in(types: &[LocalTimeType], local_time_type: &LocalTimeType) -> Option<
     None
 }
 
-/// The first index of one of a rule's types among them.
+/// The first index of a type among those of a rule, of which it is one.
 fn index_in_rule(rule: Option<RuleRef<'_>>, local_time_type: &LocalTimeType) -> usize {
     match rule {
         Some(RuleRef::Alternate(rule)) => {
@@ -331,14 +331,14 @@ fn index_of(zone: &TzZone<'_>, local_time_type: &LocalTimeType) -> usize {
     let types = zone.parts.local_time_types;
     match index_in(types, local_time_type) {
         Some(index) => index,
-        None => types.len() + index_in_rule(zone.lent().rule(), local_time_type),
+        None => types.len() + index_in_rule(zone.as_zone_data().rule(), local_time_type),
     }
 }
 
 /// The index of the type of a zone's clock at an instant.
 #[inline(always)]
 pub fn tz_zone_place_at(zone: &TzZone<'_>, unix_time: i64, out: &mut usize) -> u32 {
-    match zone.lent().find_local_time_type(unix_time) {
+    match zone.as_zone_data().find_local_time_type(unix_time) {
         Ok(local_time_type) => {
             *out = index_of(zone, local_time_type);
             OK
@@ -350,7 +350,7 @@ pub fn tz_zone_place_at(zone: &TzZone<'_>, unix_time: i64, out: &mut usize) -> u
 /// The leap time of an instant.
 #[inline(always)]
 pub fn tz_zone_leap_time(zone: &TzZone<'_>, unix_time: i64, out: &mut i64) -> u32 {
-    match leap(zone.parts.leap_seconds, unix_time) {
+    match unix_time_to_unix_leap_time(zone.parts.leap_seconds, unix_time) {
         Ok(leap_time) => {
             *out = leap_time;
             OK

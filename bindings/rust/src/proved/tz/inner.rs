@@ -1,31 +1,32 @@
 // Generated from crates/tz/src/inner.rt by bindings/erase: its contracts are cut. Change that file instead.
 //! For the crates above and their tests, and no part of the public surface: fields, text, the
-//! search for them, the slots that it fills, and how bytes are read.
+//! search for them, the slots that it fills, columns, and how bytes are read.
 
+pub use crate::proved::tz::columns::{Unanswered, write_offsets};
 pub use crate::proved::tz::datetime::date_time::fields_of;
 #[cfg(feature = "inner")]
 pub use crate::proved::tz::datetime::disambiguation::find_one;
-#[cfg(feature = "inner")]
-pub use crate::proved::tz::datetime::entry_takers::Slot;
-#[cfg(feature = "alloc")]
+#[cfg(all(feature = "alloc", feature = "inner"))]
 pub use crate::proved::tz::datetime::find::find_fields;
 pub use crate::proved::tz::datetime::gaps_and_folds::types_of_window;
 #[cfg(feature = "inner")]
 pub use crate::proved::tz::datetime::gaps_and_folds::window_of;
-pub use crate::proved::tz::datetime::utc_date_time::utc_fields_of;
+#[cfg(feature = "alloc")]
+pub use crate::proved::tz::datetime::in_place::{FoundDateTimes, find_in_place};
 #[cfg(feature = "inner")]
-pub use crate::proved::tz::datetime::zone_data_searches::{find_into, from_timespec};
+pub use crate::proved::tz::datetime::slots::{Slot, find_into};
+pub use crate::proved::tz::datetime::utc_date_time::utc_fields_of;
 #[cfg(feature = "inner")]
 pub use crate::proved::tz::parse::{read_digits, value_of};
 #[cfg(feature = "inner")]
-pub use crate::proved::tz::print::middle_of;
-pub use crate::proved::tz::text_buffer::TextBuffer;
-#[cfg(feature = "inner")]
-pub use crate::proved::tz::text_buffer::two_pairs;
-#[cfg(feature = "inner")]
 pub use crate::proved::tz_base::fields::{Fields, is_reading, local_reading};
+#[cfg(feature = "inner")]
+pub use crate::proved::tz_base::print::middle_of;
+pub use crate::proved::tz_base::text_buffer::TextBuffer;
+#[cfg(feature = "inner")]
+pub use crate::proved::tz_base::text_buffer::two_pairs;
 #[cfg(feature = "inner")]
 pub use crate::proved::tz_zone::inner::after_byte;
 #[cfg(all(feature = "std", feature = "inner"))]
 pub use crate::proved::tz_zone::inner::read_to_end;
-pub use crate::proved::tz_zone::inner::{WindowTypes, plain};
+pub use crate::proved::tz_zone::inner::{WindowTypes, ZoneData};

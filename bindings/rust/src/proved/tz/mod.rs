@@ -81,13 +81,11 @@
 //! returns [`TzError::Memory`], or an error that holds it, if it is out of memory. The other calls
 //! do not allocate; what they are passed may, as the writer to which a date time is printed.
 
+mod columns;
 pub mod datetime;
 pub mod inner;
 
 pub(crate) mod parse;
-mod print;
-mod text_buffer;
-mod tz_string_writer;
 mod utc_text;
 
 pub use crate::proved::tz::datetime::{DateTime, UtcDateTime};
@@ -99,7 +97,6 @@ pub use crate::proved::tz::timezone::LocalTimeType;
 pub use crate::proved::tz::timezone::{Change, ChangesAfter, ChangesBefore, Segment, TimeZoneRef};
 #[cfg(all(feature = "alloc", feature = "inner"))]
 pub use crate::proved::tz::timezone::{TimeZone, TimeZoneSettings};
-pub use crate::proved::tz::tz_string_writer::TzString;
 #[cfg(feature = "inner")]
 pub use crate::proved::tz_base::{constants, error};
-pub use crate::proved::tz_zone::timezone;
+pub use crate::proved::tz_zone::{TzString, timezone};

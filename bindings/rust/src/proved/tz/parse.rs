@@ -76,9 +76,9 @@ impl fmt::Display for DateTimePart {
 /// Why a text is not read as a date time: the first part that it does not have, and where.
 #[derive(Clone, Copy, Debug, PartialEq, Eq)]
 pub struct ParseDateTimeError {
-    /// The part.
+    /// The part that the text should have there.
     pub expected: DateTimePart,
-    /// How many bytes stand before its position.
+    /// How many bytes of the text come before the place where it is missing.
     pub position: usize,
 }
 

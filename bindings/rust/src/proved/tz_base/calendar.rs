@@ -14,13 +14,13 @@ use crate::proved::tz_base::constants::{
 /// How many cycles a year is moved by.
 const CYCLES: i64 = 5_368_710;
 
-/// The years of these cycles.
+/// How many years the moved years are counted earlier.
 const ADDED_YEARS: i64 = 400 * CYCLES;
 
 /// The days from January 1st of the year -2147484000, which is moved to 0, to 1970-01-01.
 pub const ADDED_DAYS: i64 = DAYS_PER_400_YEARS * CYCLES + 719_528;
 
-/// The seconds of these days.
+/// The seconds of [`ADDED_DAYS`].
 const ADDED_SECONDS: i64 = SECONDS_PER_DAY * ADDED_DAYS;
 
 /// The days from the day before March 1st of the year -2147484000 to 1970-01-01.
@@ -29,7 +29,8 @@ const ADDED_MARCH_DAYS: i64 = 784_353_144_339;
 /// Days from March 1st to the first of each month: January and February come last.
 const DAYS_FROM_MARCH: [u16; 12] = [306, 337, 0, 31, 61, 92, 122, 153, 184, 214, 245, 275];
 
-/// The year, moved.
+/// The year, counted from a multiple of 400 years before all years of an `i32`, so that none is
+/// negative.
 #[must_use]
 pub const fn moved_year(year: i32) -> u64 {
     (year as i64 + ADDED_YEARS) as u64
@@ -70,7 +71,7 @@ const fn centuries_before(years: u64) -> u64 {
     1_374_389_535 * (years + 99) / 137_438_953_472
 }
 
-/// How many days a month of a leap year or of another one has.
+/// How many days a month has in a leap year, or in a year of 365 days.
 #[must_use]
 pub const fn days_of_month(leap: bool, month: u8) -> u8 {
     match month {
@@ -114,7 +115,7 @@ pub const fn days_before_moved_year(years: u64) -> u64 {
     (1461 * years + 3) / 4 - 3 * centuries_before(years) / 4
 }
 
-/// The days of a leap year or of another one before a month of it.
+/// How many days of a leap year, or of a year of 365 days, come before a month.
 #[must_use]
 pub const fn days_before_month(leap: bool, month: u8) -> u16 {
     let index = month as usize - 1;

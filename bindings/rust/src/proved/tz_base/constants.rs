@@ -64,7 +64,7 @@ pub const CUMUL_DAYS_IN_MONTHS_LEAP_YEAR: [i64; 12] =
 /// years.
 pub const UNIX_OFFSET_SECS: i64 = 951_868_800;
 
-/// The year of that day.
+/// The year of the day at [`UNIX_OFFSET_SECS`].
 pub const OFFSET_YEAR: i64 = 2000;
 
 /// Days of each month of a leap year that is counted from March.

@@ -35,7 +35,7 @@ pub struct Fields {
 /// The reading of the first second of the years of 32 bits.
 const FIRST_READING: i64 = -67_768_100_567_971_200;
 
-/// The reading of their last second.
+/// The reading of the last second of the years of an `i32`.
 const LAST_READING: i64 = 67_767_976_233_532_799;
 
 /// Whether the reading is in a year of 32 bits.

@@ -164,7 +164,7 @@ impl Date {
         Date::from_day_number(day)
     }
 
-    /// How many days this date is after another one; negative if it is before it.
+    /// How many days this date is after `other`, negative if it is before.
     #[must_use]
     pub const fn days_since(self, other: Self) -> i64 {
         self.day_number() - other.day_number()

@@ -2,12 +2,11 @@
 //! When a date begins in a time zone.
 
 use crate::proved::tz::DateTime;
-use crate::proved::tz::inner::{WindowTypes, plain, types_of_window};
+use crate::proved::tz::inner::{WindowTypes, ZoneData, types_of_window};
 use crate::proved::tz_base::constants::SECONDS_PER_DAY;
 use crate::proved::tz_base::error::TzError;
 use crate::proved::tz_base::order::lesser_i64;
 use crate::proved::tz_civil::Date;
-use crate::proved::tz_zone::inner::ZoneData;
 use crate::proved::tz_zone::timezone::{LocalTimeType, TimeZoneRef};
 
 /// An instant, and the type that a clock has there.
@@ -48,8 +47,8 @@ const fn first_shown(offset: i32, at: i64, last: i64, first_reading: i64) -> Opt
     None
 }
 
-/// The start of a day, whose first reading is given, if the clock has one type from `low` up to the
-/// instant before another one, and a second type from there to `high`.
+/// The start of a day, whose first reading is given, if the clock changes its type once from `low`
+/// to `high`.
 const fn first_around<'a>(
     first_reading: i64,
     low: i64,
@@ -136,7 +135,7 @@ pub const fn first_of_day<'a>(zone: &ZoneData<'a>, day: i64) -> Result<Option<Sh
 }
 
 pub const fn start_of_day(zone: &TimeZoneRef<'_>, date: Date) -> Result<Option<DateTime>, TzError> {
-    let found = match first_of_day(&plain(zone), date.day_number()) {
+    let found = match first_of_day(&ZoneData::of(zone), date.day_number()) {
         Ok(value) => value,
         Err(error) => return Err(error),
     };

@@ -5,7 +5,7 @@ use crate::proved::tz::inner::{fields_of, utc_fields_of};
 use crate::proved::tz::{DateTime, UtcDateTime};
 use crate::proved::tz_base::fields::Fields;
 use crate::proved::tz_format::line::Line;
-use crate::proved::tz_format::moment::Moment;
+use crate::proved::tz_format::moment::{Moment, Name};
 use crate::proved::tz_format::pattern::{Pattern, UtcPattern};
 use crate::proved::tz_format::print::push_pattern;
 use core::fmt;
@@ -35,7 +35,7 @@ fn moment_of(date_time: &DateTime) -> Moment<'_> {
     Moment {
         fields: copied(fields_of(date_time)),
         ut_offset: local_time_type.ut_offset(),
-        designation: local_time_type.time_zone_designation(),
+        name: Name::OfType(local_time_type),
         unix_time: date_time.unix_time(),
     }
 }
@@ -45,7 +45,7 @@ fn moment_of_utc(date_time: &UtcDateTime) -> Moment<'static> {
     Moment {
         fields: copied(utc_fields_of(date_time)),
         ut_offset: 0,
-        designation: "UTC",
+        name: Name::Fixed("UTC"),
         unix_time: date_time.unix_time(),
     }
 }

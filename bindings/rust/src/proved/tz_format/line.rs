@@ -8,9 +8,16 @@ pub struct Line {
     len: usize,
 }
 
+/// The two digits of each number below 100, in order.
+static PAIRS: [u8; 200] =
+    *b"00010203040506070809101112131415161718192021222324252627282930313233343536373839404142434445464748495051525354555657585960616263646566676869707172737475767778798081828384858687888990919293949596979899";
+
 /// The two digits of a number below 100.
-fn pair_of(number: u8) -> [u8; 2] {
-    [b'0' + number / 10, b'0' + number % 10]
+pub(crate) fn pair_of(number: u8) -> [u8; 2] {
+    let position = usize::from(number) * 2;
+    let mut pair = [0; 2];
+    pair.copy_from_slice(&PAIRS[position..position + 2]);
+    pair
 }
 
 impl Line {
@@ -31,7 +38,7 @@ impl Line {
 
     /// The text.
     pub(crate) fn as_str(&self) -> &str {
-        crate::shim::text(self.as_bytes())
+        crate::shim::text_before(&self.bytes, self.len)
     }
 
     /// Appends a byte.

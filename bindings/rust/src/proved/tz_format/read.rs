@@ -5,7 +5,7 @@ use crate::proved::tz::UtcDateTime;
 use crate::proved::tz_base::fields::Fields;
 use crate::proved::tz_format::conversion::{Conversion, conversion_at};
 use crate::proved::tz_format::line::Line;
-use crate::proved::tz_format::moment::Moment;
+use crate::proved::tz_format::moment::{Moment, Name};
 use crate::proved::tz_format::pattern::Pattern;
 use crate::proved::tz_format::print::{month_name, push_pattern};
 use core::{error, fmt};
@@ -369,7 +369,7 @@ fn moment_with(values: &[i32; 13]) -> Option<(UtcDateTime, Moment<'static>)> {
             Moment {
                 fields,
                 ut_offset,
-                designation: "",
+                name: Name::Fixed(""),
                 unix_time: 0,
             },
         )),
@@ -429,7 +429,8 @@ fn shared(text: &[u8], other: &[u8]) -> usize {
     text.len()
 }
 
-/// That a text is not read of which these parts were guessed.
+/// The error of a text that the pattern does not print: how many bytes it shares with what the
+/// pattern prints of the date time that is nearest to `values`.
 fn mismatch(pattern: &Pattern<'_>, values: &[i32; 13], text: &[u8]) -> ReadPatternError {
     let Some(moment) = nearest_moment(values) else {
         return ReadPatternError::Mismatch { position: 0 };

@@ -1,5 +1,5 @@
 // Generated from crates/tz_format/src/weeks.rt by bindings/erase: its contracts are cut. Change that file instead.
-//! Weeks of ISO 8601.
+//! Numbers of weeks: those of ISO 8601, and those of a year from its first Sunday or Monday on.
 
 use crate::proved::tz_base::calendar::{is_leap_year, is_moved_year_leap, moved_year};
 use crate::proved::tz_base::fields::Fields;
@@ -23,7 +23,8 @@ fn days_of_year_before(year: i32) -> u16 {
     }
 }
 
-/// The week of the year, of weeks that begin so many days before the date.
+/// The week of the year, from 0 to 53, if weeks begin on the week day that was `since_first` days
+/// before the date. The days before the year's first such day are in week 0.
 pub(crate) fn week_of_year(year_day: u16, since_first: u8) -> u8 {
     ((year_day + 7 - u16::from(since_first)) / 7) as u8
 }

@@ -4,6 +4,7 @@
 
 #[cfg(feature = "inner")]
 pub use crate::proved::tz_rule::timezone::alternate_time::AlternateData;
+pub use crate::proved::tz_rule::timezone::local_time_type::designation_bytes;
 #[cfg(feature = "inner")]
 pub use crate::proved::tz_rule::timezone::rule_changes::RuleChange;
 pub use crate::proved::tz_rule::timezone::rule_changes::{change_after, change_up_to};

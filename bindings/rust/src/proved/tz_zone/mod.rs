@@ -8,3 +8,5 @@ mod leap;
 pub(crate) mod parse;
 mod table;
 pub mod timezone;
+
+pub use crate::proved::tz_zone::parse::tz_string_writer::TzString;

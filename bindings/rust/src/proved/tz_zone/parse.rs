@@ -3,6 +3,7 @@
 
 pub(crate) mod tz_file;
 pub(crate) mod tz_string;
+pub(crate) mod tz_string_writer;
 
 /// The bytes after a byte, if they begin with it.
 #[must_use]

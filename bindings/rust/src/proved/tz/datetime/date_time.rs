@@ -2,15 +2,14 @@
 //! Date times of a local time type.
 
 use super::utc_date_time::duration_between;
-use super::zone_data_searches::from_timespec;
-use crate::proved::tz::text_buffer::TextBuffer;
 use crate::proved::tz_base::constants::NANOSECONDS_PER_SECOND;
 use crate::proved::tz_base::error::{DateTimeError, TzError};
 use crate::proved::tz_base::fields::{
     Fields, is_reading, local_reading, timespec, total_nanoseconds,
 };
+use crate::proved::tz_base::text_buffer::TextBuffer;
 use crate::proved::tz_rule::timezone::LocalTimeType;
-use crate::proved::tz_zone::inner::plain;
+use crate::proved::tz_zone::inner::ZoneData;
 use crate::proved::tz_zone::timezone::TimeZoneRef;
 use core::cmp::Ordering;
 use core::fmt;
@@ -148,6 +147,24 @@ impl DateTime {
         })
     }
 
+    /// The date time that the zone's clock shows at a Unix time.
+    #[inline(always)]
+    pub(super) const fn shown_by_clock(
+        unix_time: i64,
+        nanoseconds: u32,
+        zone: &ZoneData<'_>,
+    ) -> Result<Self, TzError> {
+        if nanoseconds < NANOSECONDS_PER_SECOND {
+            if let Ok(local_time_type) = zone.find_local_time_type(unix_time) {
+                if let Ok(date_time) = DateTime::shown_by(unix_time, nanoseconds, *local_time_type)
+                {
+                    return Ok(date_time);
+                }
+            }
+        }
+        Err(clock_fault(unix_time, nanoseconds, *zone))
+    }
+
     /// The date time that the zone's clock shows at a Unix time, with nanoseconds below 10^9.
     ///
     /// What clocks of a zone show at a Unix time, and the name of their time:
@@ -178,7 +195,7 @@ impl DateTime {
         nanoseconds: u32,
         time_zone_ref: TimeZoneRef<'_>,
     ) -> Result<Self, TzError> {
-        from_timespec(unix_time, nanoseconds, &plain(&time_zone_ref))
+        DateTime::shown_by_clock(unix_time, nanoseconds, &ZoneData::of(&time_zone_ref))
     }
 
     /// The date time that the type shows a number of nanoseconds after 1970-01-01T00:00:00Z, or
@@ -308,6 +325,20 @@ impl DateTime {
     /// The fields, which are valid and shown.
     pub(crate) const fn fields(&self) -> &Fields {
         &self.fields
+    }
+}
+
+/// Why the zone's clock shows no date time at a Unix time. It looks the type up again, so that a
+/// lookup that succeeds passes on no error, and takes the zone by value, so that this stays in
+/// registers.
+#[cold]
+const fn clock_fault(unix_time: i64, nanoseconds: u32, zone: ZoneData<'_>) -> TzError {
+    if nanoseconds >= NANOSECONDS_PER_SECOND {
+        return TzError::DateTime(DateTimeError::InvalidNanoseconds);
+    }
+    match zone.find_local_time_type(unix_time) {
+        Ok(_) => TzError::OutOfRange,
+        Err(error) => error,
     }
 }
 

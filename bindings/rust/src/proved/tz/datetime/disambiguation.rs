@@ -1,71 +1,45 @@
 // Generated from crates/tz/src/datetime/disambiguation.rt by bindings/erase: its contracts are cut. Change that file instead.
-//! What a local time means in a zone, without a list: how many entries a search finds, and those of
-//! its ends; and which date time is meant, by a choice for gaps and folds.
+//! Which date time a local time means in a zone, by a choice for gaps and folds.
 
-use super::entry_takers::EntryTaker;
-use super::gaps_and_folds::{give_in_window, passes_over, shown_at, types_of_window, window_of};
-use super::zone_data_searches::from_timespec;
+use super::entry_ends::{Entry, EntryEnds, ends_by_walk, jump_inside};
+use super::gaps_and_folds::{passes_over, shown_at, types_of_window, window_of};
 use super::{DateTime, UtcDateTime};
 use crate::proved::tz_base::error::TzError;
-use crate::proved::tz_base::fields::{Fields, local_reading};
-use crate::proved::tz_zone::inner::{TransitionView, WindowTypes, ZoneData, plain};
+use crate::proved::tz_base::fields::Fields;
+use crate::proved::tz_zone::inner::{WindowTypes, ZoneData};
 use crate::proved::tz_zone::timezone::{LocalTimeType, TimeZoneRef};
 
-/// An entry of a reading.
-#[derive(Clone, Copy)]
-pub(super) enum Entry<'a> {
-    /// At this Unix time the clock shows the reading in this type.
-    Shown(i64, &'a LocalTimeType),
-    /// At this Unix time the clock is set forward over it, from the first type to the second.
-    Jump(i64, &'a LocalTimeType, &'a LocalTimeType),
+/// Which date time a local time means if clocks are set forward over it or show it more than once.
+///
+/// | choice | in a fold, where they show it twice | in a gap, where they skip it |
+/// |---|---|---|
+/// | `Compatible` | the first instant | as much later as clocks are set forward: 2:30 becomes 3:30 |
+/// | `Earlier` | the first instant | as much earlier: 2:30 becomes 1:30 |
+/// | `Later` | the last instant | as much later: 2:30 becomes 3:30 |
+/// | `Reject` | none | none |
+///
+/// If clocks show a local time exactly once and are not set forward over it, all choices mean that.
+/// If they do both, as when they are set back soon after, `Compatible` means the first instant at
+/// which they show it, `Earlier` and `Later` the first and the last entry of
+/// [`DateTime::find`](super::DateTime::find), and `Reject` none.
+#[derive(Clone, Copy, Debug, Default, Hash, PartialEq, Eq)]
+pub enum Disambiguation {
+    /// The first instant at which clocks show it, or, in a gap, as much later as clocks are set
+    /// forward: what calendars do. (RFC 5545, 3.3.5)
+    #[default]
+    Compatible,
+    /// The first entry: an instant at which clocks show it, or, in a gap, as much earlier as clocks
+    /// are set forward.
+    Earlier,
+    /// The last entry: an instant at which clocks show it, or, in a gap, as much later as clocks
+    /// are set forward.
+    Later,
+    /// The only instant at which clocks show it, or none if there are several or if clocks are also
+    /// set forward over it.
+    Reject,
 }
 
-/// How many entries a reading has, the first, the last, and the first that is shown.
-#[derive(Clone, Copy)]
-struct Ends<'a> {
-    count: usize,
-    first: Option<Entry<'a>>,
-    last: Option<Entry<'a>>,
-    shown: Option<Entry<'a>>,
-}
-
-/// A jump, if the local times before and after it are in the years of an `i32`.
-#[inline]
-fn jump_inside<'a>(
-    unix_time: i64,
-    before: &'a LocalTimeType,
-    after: &'a LocalTimeType,
-) -> Result<Entry<'a>, TzError> {
-    let Some(_) = local_reading(unix_time, before.ut_offset()) else {
-        return Err(TzError::OutOfRange);
-    };
-    let Some(_) = local_reading(unix_time, after.ut_offset()) else {
-        return Err(TzError::OutOfRange);
-    };
-    Ok(Entry::Jump(unix_time, before, after))
-}
-
-impl<'a> Ends<'a> {
-    /// No entries.
-    fn none() -> Self {
-        Ends {
-            count: 0,
-            first: None,
-            last: None,
-            shown: None,
-        }
-    }
-
-    /// Counts one more, which is the last.
-    #[inline]
-    fn push(&mut self, entry: Entry<'a>) {
-        // A reading has at most 2^33 entries, and where a `usize` has 32 bits memory has no room
-        // for the transitions of 2^31, so the count never comes to its end.
-        self.count = self.count.saturating_add(1);
-        self.first = self.first.or(Some(entry));
-        self.last = Some(entry);
-    }
-
+impl<'a> EntryEnds<'a> {
     /// The entry that is meant, if there is one.
     #[inline]
     fn meant(&self, disambiguation: Disambiguation) -> Option<Entry<'a>> {
@@ -79,68 +53,8 @@ impl<'a> Ends<'a> {
     }
 }
 
-impl<'a> EntryTaker<'a> for Ends<'a> {
-    #[inline]
-    fn shown(&mut self, unix_time: i64, local_time_type: &'a LocalTimeType) -> Result<(), TzError> {
-        let entry = Entry::Shown(unix_time, local_time_type);
-        self.shown = self.shown.or(Some(entry));
-        self.push(entry);
-        Ok(())
-    }
-
-    #[inline]
-    fn skipped(
-        &mut self,
-        unix_time: i64,
-        before: &'a LocalTimeType,
-        after: &'a LocalTimeType,
-    ) -> Result<(), TzError> {
-        let jump = jump_inside(unix_time, before, after)?;
-        self.push(jump);
-        Ok(())
-    }
-}
-
-/// The ends of all that a reading has in its window. It stands apart, and the zone is passed by
-/// value, so that the zone and the ends stay in registers where this is not called.
-#[cold]
-fn ends_by_walk<'a>(
-    reading: i64,
-    zone: ZoneData<'a>,
-    types: WindowTypes<'a>,
-    low: i64,
-    high: i64,
-) -> Result<Ends<'a>, TzError> {
-    let mut ends = Ends::none();
-    let mut view = TransitionView::new(zone.transitions());
-    give_in_window(&mut ends, reading, &mut view, zone, types, low, high)?;
-    Ok(ends)
-}
-
-/// The ends of all that a reading has in its window, by the types that the clock has there.
-///
-/// # Errors
-///
-/// [`TzError::OutOfRange`] if a side of a jump is outside the years of an `i32`.
-#[inline]
-fn ends_by_types<'a>(
-    reading: i64,
-    zone: &ZoneData<'a>,
-    types: WindowTypes<'a>,
-    low: i64,
-    high: i64,
-) -> Result<Ends<'a>, TzError> {
-    if let WindowTypes::More(_) = types {
-        return ends_by_walk(reading, *zone, types, low, high);
-    }
-    let mut ends = Ends::none();
-    let mut view = TransitionView::new(zone.transitions());
-    give_in_window(&mut ends, reading, &mut view, *zone, types, low, high)?;
-    Ok(ends)
-}
-
-/// The entry that is meant of all that a reading has in its window. It stands apart, as a window
-/// seldom needs a walk.
+/// The entry that a choice means of those in a reading's window, by a walk of the changes there. It
+/// is cold: few windows need a walk.
 #[cold]
 fn meant_by_walk<'a>(
     reading: i64,
@@ -216,144 +130,6 @@ pub(super) fn meant_in<'a>(
     }
 }
 
-/// What a local time means in a zone: the instants at which clocks show it, and the jumps over it.
-#[derive(Clone, Copy, Debug, PartialEq, Eq)]
-pub enum Meaning {
-    /// Clocks never show it, and are not set forward over it. This is so if the zone has no clock
-    /// then.
-    Nothing,
-    /// Clocks show it once.
-    Once(DateTime),
-    /// Clocks show it twice, as when they are set back.
-    Twice {
-        /// The earlier date time.
-        first: DateTime,
-        /// The later one.
-        last: DateTime,
-    },
-    /// Clocks are set forward over it. Both sides have the Unix time of the jump, and the
-    /// nanoseconds of the local time.
-    Skipped {
-        /// The date time that the clock would have shown without the jump.
-        before_transition: DateTime,
-        /// The date time that the clock shows.
-        after_transition: DateTime,
-    },
-    /// Any other list, as of a jump and a date time, by the number of its entries.
-    /// [`DateTime::find`] returns them.
-    More(usize),
-}
-
-/// What fields mean in a zone.
-#[inline]
-fn meaning_in(fields: &Fields, zone: &ZoneData<'_>) -> Result<Meaning, TzError> {
-    fields.check()?;
-    let reading = fields.reading();
-    let (low, high) = window_of(zone, reading);
-    let types = types_of_window(zone, low, high);
-    let ends = ends_by_types(reading, zone, types, low, high)?;
-    let Some(first) = ends.first else {
-        return Ok(Meaning::Nothing);
-    };
-    let Some(last) = ends.last else {
-        return Ok(Meaning::Nothing);
-    };
-    match first {
-        Entry::Shown(unix_time, local_time_type) if ends.count == 1 => {
-            let date_time = DateTime::of_fields(fields, *local_time_type, unix_time);
-            Ok(Meaning::Once(date_time))
-        }
-        Entry::Jump(unix_time, before, after) if ends.count == 1 => {
-            let before_transition = DateTime::shown_by(unix_time, fields.nanoseconds, *before)?;
-            let after_transition = DateTime::shown_by(unix_time, fields.nanoseconds, *after)?;
-            Ok(Meaning::Skipped {
-                before_transition,
-                after_transition,
-            })
-        }
-        Entry::Shown(unix_time, before) if ends.count == 2 => match last {
-            Entry::Shown(later, after) => {
-                let first = DateTime::of_fields(fields, *before, unix_time);
-                let last = DateTime::of_fields(fields, *after, later);
-                Ok(Meaning::Twice { first, last })
-            }
-            Entry::Jump(..) => Ok(Meaning::More(2)),
-        },
-        _ => Ok(Meaning::More(ends.count)),
-    }
-}
-
-impl DateTime {
-    /// What the fields mean in the zone: how often clocks show them, and whether they are set
-    /// forward over them. This call does not allocate.
-    ///
-    /// The month is from 1 to 12, the day of the month from 1, the hour from 0 to 23, the minute
-    /// from 0 to 59, the second from 0 to 60 and the nanoseconds below 10^9.
-    ///
-    /// # Errors
-    ///
-    /// Those of [`DateTime::find`] but `Memory`.
-    #[allow(clippy::too_many_arguments)]
-    #[inline]
-    pub fn meaning(
-        year: i32,
-        month: u8,
-        month_day: u8,
-        hour: u8,
-        minute: u8,
-        second: u8,
-        nanoseconds: u32,
-        time_zone_ref: TimeZoneRef<'_>,
-    ) -> Result<Meaning, TzError> {
-        let fields = Fields::new(year, month, month_day, hour, minute, second, nanoseconds);
-        meaning_in(&fields, &plain(&time_zone_ref))
-    }
-
-    /// What the local time means in the zone. The `UtcDateTime` is read as a local time, without an
-    /// offset. This call does not allocate.
-    ///
-    /// # Errors
-    ///
-    /// [`TzError::OutOfRange`] as for [`DateTime::find`].
-    #[inline]
-    pub fn meaning_local(
-        local: UtcDateTime,
-        time_zone_ref: TimeZoneRef<'_>,
-    ) -> Result<Meaning, TzError> {
-        meaning_in(local.fields(), &plain(&time_zone_ref))
-    }
-}
-
-/// Which date time a local time means if clocks are set forward over it or show it more than once.
-///
-/// | choice | in a fold, where they show it twice | in a gap, where they skip it |
-/// |---|---|---|
-/// | `Compatible` | the first instant | as much later as clocks are set forward: 2:30 becomes 3:30 |
-/// | `Earlier` | the first instant | as much earlier: 2:30 becomes 1:30 |
-/// | `Later` | the last instant | as much later: 2:30 becomes 3:30 |
-/// | `Reject` | none | none |
-///
-/// If clocks show a local time exactly once and are not set forward over it, all choices mean that.
-/// If they do both, as when they are set back soon after, `Compatible` means the first instant at
-/// which they show it, `Earlier` and `Later` the first and the last entry of
-/// [`DateTime::find`](super::DateTime::find), and `Reject` none.
-#[derive(Clone, Copy, Debug, Default, Hash, PartialEq, Eq)]
-pub enum Disambiguation {
-    /// The first instant at which clocks show it, or, in a gap, as much later as clocks are set
-    /// forward: what calendars do. (RFC 5545, 3.3.5)
-    #[default]
-    Compatible,
-    /// The first entry: an instant at which clocks show it, or, in a gap, as much earlier as clocks
-    /// are set forward.
-    Earlier,
-    /// The last entry: an instant at which clocks show it, or, in a gap, as much later as clocks
-    /// are set forward.
-    Later,
-    /// The only instant at which clocks show it, or none if there are several or if clocks are also
-    /// set forward over it.
-    Reject,
-}
-
 /// The instant at which the clock is looked up for a jump over the fields.
 #[inline]
 fn lookup_instant(
@@ -369,14 +145,14 @@ fn lookup_instant(
     fields.reading() - i64::from(local_time_type.ut_offset())
 }
 
-/// What the zone's clock shows at a Unix time. It stands apart from the search, which seldom needs
-/// it.
+/// What the zone's clock shows at a Unix time. It is cold, as few searches need it.
 #[cold]
 fn shown_apart(unix_time: i64, nanoseconds: u32, zone: &ZoneData<'_>) -> Result<DateTime, TzError> {
-    from_timespec(unix_time, nanoseconds, zone)
+    DateTime::shown_by_clock(unix_time, nanoseconds, zone)
 }
 
-/// The one date time that valid fields with this reading mean, as [`DateTime::find_one`] answers.
+/// The one date time that valid fields mean by a choice, if there is one. `reading` is that of the
+/// fields.
 #[inline(always)]
 fn find_one_valid(
     fields: &Fields,
@@ -397,7 +173,7 @@ fn find_one_valid(
     }
 }
 
-/// The one date time that fields mean, as [`DateTime::find_one`] answers it.
+/// The one date time that fields mean by a choice, if there is one.
 #[inline(always)]
 pub fn find_one(
     fields: &Fields,
@@ -450,7 +226,7 @@ impl DateTime {
         time_zone_ref: TimeZoneRef<'_>,
     ) -> Result<Option<Self>, TzError> {
         let fields = Fields::new(year, month, month_day, hour, minute, second, nanoseconds);
-        find_one(&fields, disambiguation, &plain(&time_zone_ref))
+        find_one(&fields, disambiguation, &ZoneData::of(&time_zone_ref))
     }
 
     /// The one date time that a local time means. The local time is passed as a [`UtcDateTime`]
@@ -494,7 +270,7 @@ impl DateTime {
         disambiguation: Disambiguation,
         time_zone_ref: TimeZoneRef<'_>,
     ) -> Result<Option<Self>, TzError> {
-        let zone = plain(&time_zone_ref);
+        let zone = ZoneData::of(&time_zone_ref);
         find_one_valid(local.fields(), local.unix_time(), disambiguation, &zone)
     }
 }

@@ -1,7 +1,7 @@
 // Generated from crates/tz/src/datetime/entry_takers.rt by bindings/erase: its contracts are cut. Change that file instead.
 //! What takes the entries of a search, which are instants that show a reading and jumps over it:
 //! their date times, whose fields are those that were searched for, and those of a jump are what
-//! both types show; and the lists to which these go, among them the slots of a caller.
+//! both types show; and the lists to which these go.
 
 use super::{DateTime, FoundDateTimeKind};
 use crate::proved::tz_base::error::TzError;
@@ -56,56 +56,6 @@ impl<'a, L: DateTimeList> EntryTaker<'a> for Dated<'_, L> {
             before_transition,
             after_transition,
         })?;
-        Ok(())
-    }
-}
-
-/// What holds one entry of a list.
-pub trait Slot {
-    /// Writes an entry to the slot.
-    fn set(&mut self, found: &FoundDateTimeKind);
-}
-
-impl Slot for Option<FoundDateTimeKind> {
-    fn set(&mut self, found: &FoundDateTimeKind) {
-        *self = Some(*found);
-    }
-}
-
-/// The slots that a search writes to in order from one of its entries on, and how many it found.
-pub(crate) struct SlotWriter<'a, S> {
-    slots: &'a mut [S],
-    skip: usize,
-    pub(super) count: usize,
-}
-
-impl<'a, S: Slot> SlotWriter<'a, S> {
-    /// Nothing is found yet. The first entries, this many, get no slot.
-    pub(super) const fn new(slots: &'a mut [S], skip: usize) -> Self {
-        SlotWriter {
-            slots,
-            skip,
-            count: 0,
-        }
-    }
-
-    /// Counts one more, and writes it to its slot, if there is one.
-    fn write(&mut self, found: &FoundDateTimeKind) {
-        if self.skip <= self.count {
-            let index = self.count - self.skip;
-            if index < self.slots.len() {
-                self.slots[index].set(found);
-            }
-        }
-        // A list has at most 2^33 entries, and where a `usize` has 32 bits memory has no room for
-        // the transitions of 2^31, so the count never comes to its end.
-        self.count = self.count.saturating_add(1);
-    }
-}
-
-impl<S: Slot> DateTimeList for SlotWriter<'_, S> {
-    fn push(&mut self, found: FoundDateTimeKind) -> Result<(), AllocError> {
-        self.write(&found);
         Ok(())
     }
 }

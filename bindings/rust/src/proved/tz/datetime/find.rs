@@ -1,16 +1,17 @@
 // Generated from crates/tz/src/datetime/find.rt by bindings/erase: its contracts are cut. Change that file instead.
 //! The date times at which the clock of a zone shows given fields.
 
-#[cfg(feature = "alloc")]
+#[cfg(all(feature = "alloc", feature = "inner"))]
 use super::FoundDateTimeList;
-use super::entry_takers::{DateTimeList, SlotWriter};
+use super::entry_takers::DateTimeList;
 use super::gaps_and_folds::search;
+use super::slots::SlotWriter;
 use super::{DateTime, FoundDateTimeKind, FoundDateTimeListRefMut, UtcDateTime};
 use crate::proved::tz_base::error::TzError;
 use crate::proved::tz_base::fields::Fields;
-use crate::proved::tz_zone::inner::{TransitionView, ZoneData, plain};
+use crate::proved::tz_zone::inner::{TransitionView, ZoneData};
 use crate::proved::tz_zone::timezone::TimeZoneRef;
-#[cfg(feature = "alloc")]
+#[cfg(all(feature = "alloc", feature = "inner"))]
 use crate::shim::alloc::Allocator;
 
 /// A search that failed, and the buffer as it left it.
@@ -21,7 +22,7 @@ pub(super) struct Refused<'a> {
 }
 
 /// What [`DateTime::find`] finds of the fields.
-#[cfg(feature = "alloc")]
+#[cfg(all(feature = "alloc", feature = "inner"))]
 #[inline]
 pub fn find_fields<A: Allocator + Copy>(
     alloc: A,
@@ -114,7 +115,12 @@ impl DateTime {
         time_zone_ref: TimeZoneRef<'_>,
     ) -> Result<FoundDateTimeListRefMut<'a>, TzError> {
         let mut view = TransitionView::new(time_zone_ref.transitions());
-        match DateTime::listed_in(buf, local.fields(), &mut view, &plain(&time_zone_ref)) {
+        match DateTime::listed_in(
+            buf,
+            local.fields(),
+            &mut view,
+            &ZoneData::of(&time_zone_ref),
+        ) {
             Ok(list) => Ok(list),
             Err(refused) => Err(refused.fault),
         }
@@ -175,7 +181,7 @@ impl DateTime {
     ) -> Result<FoundDateTimeListRefMut<'a>, Refused<'a>> {
         let fields = Fields::new(year, month, month_day, hour, minute, second, nanoseconds);
         let mut view = TransitionView::new(time_zone_ref.transitions());
-        DateTime::listed_in(buf, &fields, &mut view, &plain(&time_zone_ref))
+        DateTime::listed_in(buf, &fields, &mut view, &ZoneData::of(&time_zone_ref))
     }
 
     /// What [`DateTime::find_n_counted`] returns, or the buffer and the error.
@@ -193,7 +199,7 @@ impl DateTime {
     ) -> Result<(FoundDateTimeListRefMut<'a>, u64), Refused<'a>> {
         let fields = Fields::new(year, month, month_day, hour, minute, second, nanoseconds);
         let mut view = TransitionView::counted(time_zone_ref.transitions());
-        let list = DateTime::listed_in(buf, &fields, &mut view, &plain(&time_zone_ref))?;
+        let list = DateTime::listed_in(buf, &fields, &mut view, &ZoneData::of(&time_zone_ref))?;
         Ok((list, view.looks()))
     }
 

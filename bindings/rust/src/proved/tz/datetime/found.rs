@@ -13,7 +13,7 @@ use crate::shim::Vec;
 use crate::shim::alloc::{AllocError, Allocator, Global};
 use core::fmt;
 
-/// A found date time.
+/// An entry of what a search finds: a date time with the fields, or a jump over them.
 #[derive(Clone, Copy, Debug, PartialEq, Eq)]
 pub enum FoundDateTimeKind {
     /// The clock shows the date time.

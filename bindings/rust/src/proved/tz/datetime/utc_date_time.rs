@@ -2,10 +2,10 @@
 //! Date times of UTC; date times moved by durations, and durations between totals.
 
 use super::DateTime;
-use crate::proved::tz::text_buffer::TextBuffer;
 use crate::proved::tz_base::constants::NANOSECONDS_PER_SECOND;
 use crate::proved::tz_base::error::{DateTimeError, TzError};
 use crate::proved::tz_base::fields::{Fields, is_reading, timespec, total_nanoseconds};
+use crate::proved::tz_base::text_buffer::TextBuffer;
 use crate::proved::tz_zone::timezone::TimeZoneRef;
 use core::fmt;
 use core::ops::{Add, AddAssign, Sub, SubAssign};
@@ -32,6 +32,18 @@ pub(crate) const fn is_past_the_end(fields: &Fields) -> bool {
         && fields.hour == 23
         && fields.minute == 59
         && fields.second == 60
+}
+
+/// Why fields make no date time. It is cold, so that the usual path has one exit.
+#[cold]
+const fn fields_fault(fields: &Fields) -> TzError {
+    if is_past_the_end(fields) {
+        return TzError::OutOfRange;
+    }
+    match fields.check() {
+        Err(error) => TzError::DateTime(error),
+        Ok(()) => TzError::OutOfRange,
+    }
 }
 
 impl UtcDateTime {
@@ -108,16 +120,13 @@ impl UtcDateTime {
         nanoseconds: u32,
     ) -> Result<Self, TzError> {
         let fields = Fields::new(year, month, month_day, hour, minute, second, nanoseconds);
-        if is_past_the_end(&fields) {
-            return Err(TzError::OutOfRange);
+        match fields.check() {
+            Ok(()) if !is_past_the_end(&fields) => Ok(UtcDateTime::of_fields(fields)),
+            _ => Err(fields_fault(&fields)),
         }
-        if let Err(error) = fields.check() {
-            return Err(TzError::DateTime(error));
-        }
-        Ok(UtcDateTime::of_fields(fields))
     }
 
-    /// The date time with these fields, which have one.
+    /// The date time with fields that are known to have one.
     #[inline]
     pub(crate) const fn of_fields(fields: Fields) -> Self {
         UtcDateTime {
@@ -126,7 +135,7 @@ impl UtcDateTime {
         }
     }
 
-    /// The date time of a Unix time and nanoseconds, which have one.
+    /// The date time of a Unix time and nanoseconds that are known to have one.
     #[inline]
     const fn at(unix_time: i64, nanoseconds: u32) -> Self {
         UtcDateTime {

@@ -16,8 +16,8 @@ const fn lesser(a: u8, b: u8) -> u8 {
 }
 
 impl Date {
-    /// The same day of the month this many months later, or earlier if they are negative; the last
-    /// day of a month that has fewer days. `None` outside the years of 32 bits.
+    /// The date with the same day of the month `months` months later, or earlier if `months` is
+    /// negative; the last day of a month that has fewer days. `None` outside the years of 32 bits.
     ///
     /// A month after January 31st is February 28th or 29th, and a month after that is March 28th or
     /// 29th. So that a series of dates does not stay there, add the months of each to the first

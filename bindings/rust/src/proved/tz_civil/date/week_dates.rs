@@ -34,8 +34,8 @@ const fn days_of_year(year: i32) -> u16 {
     if is_leap_year(year) { 366 } else { 365 }
 }
 
-/// The number of the week in whose year January 1st has the first number, and its Thursday the
-/// second.
+/// The number of the week whose Thursday is the day `thursday`, in a year whose January 1st is the
+/// day `first`.
 const fn week_of(first: i64, thursday: i64) -> u8 {
     ((thursday - first) as u64 / 7 + 1) as u8
 }

@@ -66,9 +66,9 @@ impl Parts {
 /// in the next year, and otherwise to its end in the same year.
 #[derive(Clone, Copy)]
 pub struct AlternateTime {
-    plain: AlternateData,
-    // Both days once more: `dst_start()` and `dst_end()` lend a `RuleDay`, which the plain data has
-    // as numbers (`DayData`).
+    rule: AlternateData,
+    // Both days once more: `dst_start()` and `dst_end()` lend a `RuleDay`, which the data has as
+    // numbers (`DayData`).
     dst_start: RuleDay,
     dst_end: RuleDay,
 }
@@ -130,7 +130,7 @@ impl AlternateTime {
             return Err(TransitionRuleError::InconsistentRule);
         };
         Ok(AlternateTime {
-            plain: AlternateData::of_tables(parts, starts, ends, ends_next_year),
+            rule: AlternateData::of_tables(parts, starts, ends, ends_next_year),
             dst_start,
             dst_end,
         })
@@ -168,13 +168,13 @@ impl AlternateTime {
     /// The type of standard time.
     #[must_use]
     pub const fn std(&self) -> &LocalTimeType {
-        self.plain.std()
+        self.rule.std()
     }
 
     /// The type of daylight saving time.
     #[must_use]
     pub const fn dst(&self) -> &LocalTimeType {
-        self.plain.dst()
+        self.rule.dst()
     }
 
     /// The day on which daylight saving time starts.
@@ -183,11 +183,11 @@ impl AlternateTime {
         &self.dst_start
     }
 
-    /// When it starts on that day, in seconds from 00:00 of standard time, less than a week either
-    /// way.
+    /// When daylight saving time starts on its day, in seconds from 00:00 of standard time, less
+    /// than a week either way.
     #[must_use]
     pub const fn dst_start_time(&self) -> i32 {
-        self.plain.dst_start_time()
+        self.rule.dst_start_time()
     }
 
     /// The day on which daylight saving time ends.
@@ -196,23 +196,23 @@ impl AlternateTime {
         &self.dst_end
     }
 
-    /// When it ends on that day, in seconds from 00:00 of daylight saving time, less than a week
-    /// either way.
+    /// When daylight saving time ends on its day, in seconds from 00:00 of daylight saving time,
+    /// less than a week either way.
     #[must_use]
     pub const fn dst_end_time(&self) -> i32 {
-        self.plain.dst_end_time()
+        self.rule.dst_end_time()
     }
 }
 
 impl PartialEq for AlternateTime {
     fn eq(&self, other: &AlternateTime) -> bool {
-        let (a, b) = (&self.plain, &other.plain);
+        let (a, b) = (&self.rule, &other.rule);
         a.std() == b.std()
-            && (a.dst() == b.dst()
-                && (self.dst_start == other.dst_start
-                    && (a.dst_start_time() == b.dst_start_time()
-                        && (self.dst_end == other.dst_end
-                            && a.dst_end_time() == b.dst_end_time()))))
+            && a.dst() == b.dst()
+            && self.dst_start == other.dst_start
+            && a.dst_start_time() == b.dst_start_time()
+            && self.dst_end == other.dst_end
+            && a.dst_end_time() == b.dst_end_time()
     }
 }
 
@@ -257,7 +257,7 @@ impl AlternateData {
     /// The data of a rule.
     #[must_use]
     pub const fn of(rule: &AlternateTime) -> &Self {
-        &rule.plain
+        &rule.rule
     }
 
     /// The rule of parts in range with their tables, whose starts and ends keep their order.
@@ -316,7 +316,7 @@ impl AlternateData {
         &self.parts.dst_start
     }
 
-    /// When it starts on that day, in seconds from 00:00 of standard time.
+    /// When daylight saving time starts on its day, in seconds from 00:00 of standard time.
     #[must_use]
     pub const fn dst_start_time(&self) -> i32 {
         self.parts.dst_start_time
@@ -329,7 +329,7 @@ impl AlternateData {
         &self.parts.dst_end
     }
 
-    /// When it ends on that day, in seconds from 00:00 of daylight saving time.
+    /// When daylight saving time ends on its day, in seconds from 00:00 of daylight saving time.
     #[must_use]
     pub const fn dst_end_time(&self) -> i32 {
         self.parts.dst_end_time

@@ -3,7 +3,8 @@
 //! distance in years. If not, a conflict shows it.
 //!
 //! Consistency is determined by the tables of both alone, without a year, and a conflict is looked
-//! for in the years from 1972 to 2000.
+//! for in the years from 1972 to 2000. A start and an end at one instant are in no order, so they
+//! make no rule inconsistent: the span between them is empty.
 
 use super::year_table::{BoundedTable, KINDS, YearTable};
 use crate::proved::tz_base::constants::{SECONDS_PER_DAY, SECONDS_PER_NORMAL_YEAR};
@@ -52,7 +53,7 @@ impl YearTable {
         self.entry(second_kind(pair)) + SECONDS_PER_DAY * days as i64
     }
 
-    /// Whether the instant comes before the other one in some year.
+    /// Whether the instant of some year comes before that of `other` in the same year.
     pub(super) const fn comes_first(&self, other: &YearTable) -> bool {
         let mut kind = 0;
         while kind < KINDS {
@@ -64,7 +65,7 @@ impl YearTable {
         false
     }
 
-    /// Whether the instant of some year comes before the other one of the next year.
+    /// Whether the instant of some year comes before that of `other` in the next year.
     pub(super) const fn comes_before_next(&self, other: &YearTable) -> bool {
         let mut pair = 0;
         while pair < PAIR_KINDS {
@@ -76,7 +77,7 @@ impl YearTable {
         false
     }
 
-    /// Whether the instant of some year comes after the other one of the next year.
+    /// Whether the instant of some year comes after that of `other` in the next year.
     const fn comes_after_next(&self, other: &YearTable) -> bool {
         let mut pair = 0;
         while pair < PAIR_KINDS {
@@ -88,7 +89,8 @@ impl YearTable {
         false
     }
 
-    /// Whether the instant and the other one of the next year change their order.
+    /// Whether the instant of a year comes before that of `other` in the next year in some years,
+    /// and after it in others.
     const fn changes_across_years(&self, other: &YearTable) -> bool {
         self.comes_before_next(other) && self.comes_after_next(other)
     }
@@ -106,7 +108,8 @@ impl YearTable {
         ends.changes_across_years(self)
     }
 
-    /// A year in which the instant comes before the other one of the year that is at the distance.
+    /// A year from 1972 to 2000 in which the instant comes before that of `other` in the year that
+    /// is `distance` years later.
     const fn year_before(&self, other: &YearTable, distance: i32) -> Option<i32> {
         let mut index = 0;
         while index < MODEL_YEARS {

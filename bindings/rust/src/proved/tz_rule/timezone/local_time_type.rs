@@ -92,9 +92,15 @@ impl Designation {
         u64::from_le_bytes([b0, b1, b2, b3, b4, b5, b6, self.len])
     }
 
+    /// The bytes of the name, none if there is no name.
+    #[inline]
+    const fn as_bytes(&self) -> &[u8] {
+        self.bytes.split_at(self.len as usize).0
+    }
+
     /// The name, empty if there is none.
     const fn as_str(&self) -> &str {
-        crate::shim::text(self.bytes.split_at(self.len as usize).0)
+        crate::shim::text(self.as_bytes())
     }
 }
 
@@ -196,4 +202,11 @@ impl LocalTimeType {
         }
         Some(self.time_zone_designation.as_str())
     }
+}
+
+/// The bytes of the type's name, none if it has no name.
+#[inline]
+#[must_use]
+pub const fn designation_bytes(local_time_type: &LocalTimeType) -> &[u8] {
+    local_time_type.time_zone_designation.as_bytes()
 }

@@ -3,7 +3,7 @@
 
 pub(crate) mod alternate_time;
 mod consistency;
-mod local_time_type;
+pub(crate) mod local_time_type;
 pub(crate) mod rule_changes;
 pub(crate) mod rule_day;
 pub(crate) mod rule_segments;

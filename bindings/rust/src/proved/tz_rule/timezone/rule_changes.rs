@@ -69,11 +69,11 @@ const fn change_by_types<'a>(
 }
 
 impl AlternateData {
-    /// The last start or end up to an instant near the moved year, and the next one after it.
-    /// Either is `None` if it meets the other one of its year. `end_is_first` is as in
-    /// `segment_by_order`.
+    /// The last start or end of daylight saving time up to an instant near the moved year, and the
+    /// next one after it. `None` stands for one that coincides with the other of its year, and so
+    /// changes nothing. `end_is_first` is `ends_next_year()`.
     ///
-    /// The second one of a year never meets the first one of the next year, since both are far
+    /// The later of a year never coincides with the earlier of the next year, since both are far
     /// inside their years.
     #[inline(always)]
     const fn switches_by_order(

@@ -35,7 +35,7 @@ impl Julian1WithoutLeap {
         self.0
     }
 
-    /// How many days after January 1st the day is, in a leap year or another one.
+    /// How many days after January 1st the day is, in a leap year or in a year of 365 days.
     const fn year_day(&self, leap: bool) -> u16 {
         let day = self.0;
         if leap && day > 59 { day } else { day - 1 }

@@ -43,7 +43,7 @@ impl Hash for TransitionRule {
     }
 }
 
-/// A rule that is lent: a fixed type, or the data of an alternate rule.
+/// A borrowed rule: a fixed type, or the data of an alternate rule.
 #[derive(Clone, Copy)]
 pub enum RuleRef<'a> {
     /// One type for all time.
@@ -53,7 +53,7 @@ pub enum RuleRef<'a> {
 }
 
 impl<'a> RuleRef<'a> {
-    /// Lends a rule.
+    /// A reference to a rule.
     #[inline]
     #[must_use]
     pub const fn of(rule: &'a TransitionRule) -> RuleRef<'a> {

@@ -37,14 +37,14 @@ pub(super) const fn moved_year_start(moved_year: u64) -> (i64, usize) {
     (SECONDS_PER_DAY * (days as i64 - ADDED_DAYS), kind)
 }
 
-/// How many seconds after 00:00 UTC of January 1st an instant of the year is, for each kind of
-/// years.
+/// For each of the 14 kinds of years, at which second from 00:00 UTC of January 1st daylight saving
+/// time starts in it, or ends.
 #[repr(C)]
 #[derive(Clone, Copy)]
 pub(super) struct YearTable([i32; KINDS]);
 
 /// Ten days after New Year. If no start and no end lies before it, or in the last ten days of its
-/// year, the likely year determines the segment: it is another one than the instant's only within
+/// year, the likely year determines the segment: it differs from the instant's year only within
 /// two days of a New Year, where then no start or end lies.
 const INNER_START: i32 = 864_000;
 
@@ -64,7 +64,8 @@ const SECONDS_LATER: [u32; 20] = [
     345_600, 259_200, 172_800, 86_400,
 ];
 
-/// The seconds by which a day is later than the first one that it may be, at a place.
+/// The seconds by which the day at a place is later than the first day that it may be. A place is
+/// the sum of that of the rule day's span and the week day of January 1st.
 const fn seconds_later(place: usize) -> u32 {
     SECONDS_LATER[place]
 }
@@ -91,14 +92,14 @@ impl YearTable {
         self.0[kind] as i64
     }
 
-    /// The instant of a moved year.
+    /// The instant of a moved year, as a Unix time.
     #[inline(always)]
     pub(super) const fn in_moved_year(&self, moved_year: u64) -> i64 {
         let (start_of_year, kind) = moved_year_start(moved_year);
         start_of_year + self.entry(kind)
     }
 
-    /// The instant of a year.
+    /// The instant of a year, as a Unix time.
     pub(super) const fn in_year(&self, year: i32) -> i64 {
         self.in_moved_year(calendar::moved_year(year))
     }

@@ -12,9 +12,6 @@ const BLOCK: usize = 128;
 /// Half a mean Gregorian year, in seconds: clocks with daylight saving time change twice a year.
 const HALF_YEAR: u64 = 15_778_476;
 
-/// The fewest transitions at which a position is guessed: fewer are halved as fast.
-const LEAST_GUESSED: usize = 9;
-
 /// The most transitions at which a position is guessed: more of them are hardly half a year apart.
 const MOST_GUESSED: usize = 1024;
 
@@ -22,6 +19,21 @@ const MOST_GUESSED: usize = 1024;
 #[inline]
 const fn power_up_to(number: usize) -> usize {
     1 << number.ilog2()
+}
+
+/// The later of two positions if a transition is reached at a leap time, or else the earlier one.
+#[inline(always)]
+const fn later_if_reached(
+    change: Transition,
+    position: usize,
+    later: usize,
+    unix_leap_time: i64,
+) -> usize {
+    if change.unix_leap_time() <= unix_leap_time {
+        later
+    } else {
+        position
+    }
 }
 
 /// The later of two positions, if the transition before it is reached at a leap time, or else the
@@ -33,11 +45,7 @@ const fn position_after_look(
     later: usize,
     unix_leap_time: i64,
 ) -> usize {
-    if view.look(later - 1).unix_leap_time() <= unix_leap_time {
-        later
-    } else {
-        position
-    }
+    later_if_reached(view.look(later - 1), position, later, unix_leap_time)
 }
 
 /// Of twice `count` positions from `position` on, the first of the `count` among which the leap
@@ -73,21 +81,46 @@ const fn halved(
     position
 }
 
-/// The position of a leap time among 128, by seven looks. Each distance is a constant, so a step
-/// takes five instructions and no branch.
+/// Of twice `count` places of a block from `place` on, the first of the `count` among which that of
+/// the leap time is, by the transition in the middle.
+#[inline]
+const fn half_of_block(
+    block: &[Transition; BLOCK],
+    place: usize,
+    count: usize,
+    unix_leap_time: i64,
+) -> usize {
+    let later = place + count;
+    later_if_reached(block[later - 1], place, later, unix_leap_time)
+}
+
+/// The place of a leap time in a block whose last transition is ahead of it. Each distance is a
+/// constant, so a step takes five instructions, and neither a branch nor a check of bounds.
+#[inline(always)]
+const fn place_in_block(block: &[Transition; BLOCK], unix_leap_time: i64) -> usize {
+    let among_64 = half_of_block(block, 0, 64, unix_leap_time);
+    let among_32 = half_of_block(block, among_64, 32, unix_leap_time);
+    let among_16 = half_of_block(block, among_32, 16, unix_leap_time);
+    let among_8 = half_of_block(block, among_16, 8, unix_leap_time);
+    let among_4 = half_of_block(block, among_8, 4, unix_leap_time);
+    let among_2 = half_of_block(block, among_4, 2, unix_leap_time);
+    half_of_block(block, among_2, 1, unix_leap_time)
+}
+
+/// The position of a leap time among 128, by seven looks, or by as many transitions of a block if
+/// looks are not counted.
 #[inline(always)]
 const fn position_in_block(
     view: &mut TransitionView<'_>,
     position: usize,
     unix_leap_time: i64,
 ) -> usize {
-    let among_64 = half(view, position, 64, unix_leap_time);
-    let among_32 = half(view, among_64, 32, unix_leap_time);
-    let among_16 = half(view, among_32, 16, unix_leap_time);
-    let among_8 = half(view, among_16, 8, unix_leap_time);
-    let among_4 = half(view, among_8, 4, unix_leap_time);
-    let among_2 = half(view, among_4, 2, unix_leap_time);
-    half(view, among_2, 1, unix_leap_time)
+    if view.may_guess() {
+        if let Some(block) = view.chunk_at(position) {
+            return position + place_in_block(block, unix_leap_time);
+        }
+    }
+    halved(view, position, BLOCK, 1, unix_leap_time)
 }
 
 /// The position at which a leap time before the last transition lies, by halving.
@@ -108,66 +141,54 @@ const fn position_by_halving(view: &mut TransitionView<'_>, unix_leap_time: i64)
     position_in_block(view, block, unix_leap_time)
 }
 
-/// The first of three positions, at one of which a leap time before the last transition lies if two
-/// transitions come in each year.
+/// The position of a leap time before the last transition, if it lies among the four transitions
+/// that are around it where two come in each year. In the last half year of a table there are no
+/// such four, nor where so many would begin before it.
 #[inline(always)]
-const fn first_by_time(view: &TransitionView<'_>, unix_leap_time: i64) -> usize {
+const fn guessed(
+    view: &TransitionView<'_>,
+    last: Transition,
+    unix_leap_time: i64,
+) -> Option<usize> {
+    let half_years = last.unix_leap_time().abs_diff(unix_leap_time) / HALF_YEAR;
+    let first = match (view.len() as u64).checked_sub(half_years + 3) {
+        Some(value) => value,
+        None => return None,
+    } as usize;
+    let four: &[Transition; 4] = match view.chunk_at(first) {
+        Some(value) => value,
+        None => return None,
+    };
+    if unix_leap_time < four[0].unix_leap_time() || four[3].unix_leap_time() <= unix_leap_time {
+        return None;
+    }
+    let next = later_if_reached(four[1], first + 1, first + 2, unix_leap_time);
+    Some(later_if_reached(four[2], next, first + 3, unix_leap_time))
+}
+
+/// The position of a leap time before the last of 128 to 256 transitions, all of which lie in the
+/// first or in the last 128.
+///
+/// Their number says how to halve, which a search in longer tables has to find.
+#[inline(always)]
+const fn in_two_blocks(view: &TransitionView<'_>, unix_leap_time: i64) -> Option<usize> {
     let count = view.len();
-    let left = view
-        .guessed_at(count - 1)
-        .unix_leap_time()
-        .abs_diff(unix_leap_time);
-    let half_years = crate::shim::greatest!(
-        crate::shim::least!((left / HALF_YEAR), (count - 3) as u64),
-        1
-    );
-    count - 2 - half_years as usize
-}
-
-/// Whether a leap time lies at one of three positions, by the transitions on either side of them.
-#[inline]
-const fn is_among_three(view: &TransitionView<'_>, position: usize, unix_leap_time: i64) -> bool {
-    view.guessed_at(position - 1).unix_leap_time() <= unix_leap_time
-        && unix_leap_time < view.guessed_at(position + 2).unix_leap_time()
-}
-
-/// The later of two positions, if the transition before it is reached at a leap time, or else the
-/// earlier one, for a guess.
-#[inline]
-const fn position_after_guess(
-    view: &TransitionView<'_>,
-    position: usize,
-    later: usize,
-    unix_leap_time: i64,
-) -> usize {
-    if view.guessed_at(later - 1).unix_leap_time() <= unix_leap_time {
-        later
-    } else {
-        position
+    if count < BLOCK || count > 2 * BLOCK {
+        return None;
     }
-}
-
-/// The position of a leap time among three.
-#[inline]
-const fn position_among_three(
-    view: &TransitionView<'_>,
-    position: usize,
-    unix_leap_time: i64,
-) -> usize {
-    let next = position_after_guess(view, position, position + 1, unix_leap_time);
-    position_after_guess(view, next, position + 2, unix_leap_time)
-}
-
-/// The position of a leap time before the last transition, if it is one of the three positions by
-/// time.
-#[inline(always)]
-const fn guessed(view: &TransitionView<'_>, unix_leap_time: i64) -> Option<usize> {
-    let first = first_by_time(view, unix_leap_time);
-    if is_among_three(view, first, unix_leap_time) {
-        Some(position_among_three(view, first, unix_leap_time))
-    } else {
-        None
+    let start = count - BLOCK;
+    let early: &[Transition; BLOCK] = match view.chunk_at(0) {
+        Some(value) => value,
+        None => return None,
+    };
+    let late: &[Transition; BLOCK] = match view.chunk_at(start) {
+        Some(value) => value,
+        None => return None,
+    };
+    if early[BLOCK - 1].unix_leap_time() <= unix_leap_time {
+        return Some(start + place_in_block(late, unix_leap_time));
     }
+    Some(place_in_block(early, unix_leap_time))
 }
 
 /// The position at which a leap time before the last transition lies: by a guess, or else by
@@ -176,10 +197,17 @@ const fn guessed(view: &TransitionView<'_>, unix_leap_time: i64) -> Option<usize
 /// A guess may read in vain, so there is none where the looks are to be few. It decides nothing by
 /// itself: it is taken only if the transitions around it show that it is right.
 #[inline(always)]
-const fn position_before(view: &mut TransitionView<'_>, unix_leap_time: i64) -> usize {
+const fn position_before(
+    view: &mut TransitionView<'_>,
+    last: Transition,
+    unix_leap_time: i64,
+) -> usize {
     let count = view.len();
-    if count >= LEAST_GUESSED && count <= MOST_GUESSED && view.may_guess() {
-        if let Some(position) = guessed(view, unix_leap_time) {
+    if count <= MOST_GUESSED && view.may_guess() {
+        if let Some(position) = guessed(view, last, unix_leap_time) {
+            return position;
+        }
+        if let Some(position) = in_two_blocks(view, unix_leap_time) {
             return position;
         }
     }
@@ -197,7 +225,7 @@ pub(super) const fn position_of(
     if last.unix_leap_time() <= unix_leap_time {
         return view.len();
     }
-    position_before(view, unix_leap_time)
+    position_before(view, last, unix_leap_time)
 }
 
 /// The position at which an instant lies: how many transitions are reached. There is none if the

@@ -65,7 +65,7 @@ const fn end_of_run(
     end
 }
 
-/// The first instant from another one on that has a leap time, and the position at which it lies.
+/// The first instant from `unix_time` on that has a leap time, and the position at which it lies.
 #[inline(always)]
 const fn first_position(zone: &ZoneData<'_>, unix_time: i64) -> Option<(i64, usize)> {
     let first = match first_begun(zone.leap_seconds, unix_time) {
@@ -135,9 +135,9 @@ const fn following_from<'a>(
     Some((change, position))
 }
 
-/// The change at the transition after a position, and the position after it, if the one before the
-/// position takes effect at the instant. That one compare shows that the instant lies there, since
-/// times rise.
+/// The change at the transition with the index `position`, and the position after it, if the
+/// transition before takes effect at the instant: as times rise, this one comparison shows that the
+/// instant lies at `position`.
 #[inline]
 #[must_use]
 pub const fn change_after_last<'a>(
@@ -218,7 +218,7 @@ const fn start_of_run(
     start
 }
 
-/// The last instant before another one that has a leap time, and the position at which it lies.
+/// The last instant before `unix_time` that has a leap time, and the position at which it lies.
 #[inline(always)]
 const fn last_position(zone: &ZoneData<'_>, unix_time: i64) -> Option<(i64, usize)> {
     let last = last_instant_up_to(zone.leap_seconds, unix_time - 1);
@@ -304,8 +304,9 @@ const fn change_at_last<'a>(
     Some((change, position - 1))
 }
 
-/// The change at the transition before a position, and the position before it, if the one after the
-/// position takes effect at the instant. Then the instant a second earlier lies there.
+/// The change at the transition before `position`, and the position before it, if the transition
+/// with the index `position` takes effect at the instant: then the instant a second earlier lies at
+/// `position`.
 #[inline]
 #[must_use]
 pub const fn change_before_next<'a>(

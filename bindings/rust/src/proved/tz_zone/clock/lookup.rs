@@ -45,8 +45,8 @@ pub(super) const fn type_from_last<'a>(
     after_table(zone, false, unix_time).local_time_type
 }
 
-/// The last transition before a position. If there is none, one at the least leap time, to the
-/// first type.
+/// The last transition before a position. Position 0 has none: there it is one at the least leap
+/// time, to the first type.
 #[inline]
 pub(super) const fn before(view: &mut TransitionView<'_>, position: usize) -> Transition {
     if position == 0 {

@@ -1,5 +1,11 @@
 // Generated from crates/tz_zone/src/leap/leap_time.rt by bindings/erase: its contracts are cut. Change that file instead.
 //! Leap times of instants, and instants of leap times.
+//!
+//! An instant may have a leap time (`leap_time`), is known to have one (`existing_leap_time`), or
+//! is refused if it has none (`unix_time_to_unix_leap_time`). The way back is the effect: that of
+//! a leap time which is known to be reached (`effect_of_reached`), which may be
+//! (`effect_if_reached`), or which is refused if it is not (`effect`); `wide_effect` has more than
+//! 64 bits.
 
 use super::LeapSecond;
 use super::table_checks::{correction_at_start, correction_before, truncated_start};
@@ -28,7 +34,7 @@ pub(crate) const fn has_begun(leap_seconds: &[LeapSecond], unix_time: i64) -> bo
     first_instant(leap_seconds) <= unix_time as i128
 }
 
-/// The first instant from another one on that does not lie before a truncated start, if there is
+/// The first instant from `unix_time` on that does not lie before a truncated start, if there is
 /// one.
 #[inline]
 pub(crate) const fn first_begun(leap_seconds: &[LeapSecond], unix_time: i64) -> Option<i64> {
@@ -163,7 +169,10 @@ pub(crate) const fn leap_time(leap_seconds: &[LeapSecond], unix_time: i64) -> Op
 
 /// The leap time of an instant. (RFC 8536, section 2)
 #[cfg(feature = "inner")]
-pub const fn leap(leap_seconds: &[LeapSecond], unix_time: i64) -> Result<i64, TzError> {
+pub const fn unix_time_to_unix_leap_time(
+    leap_seconds: &[LeapSecond],
+    unix_time: i64,
+) -> Result<i64, TzError> {
     match leap_time_by_seconds(leap_seconds, unix_time) {
         Some(unix_leap_time) => Ok(unix_leap_time),
         None => Err(TzError::OutOfRange),

@@ -54,12 +54,12 @@ const fn is_one_second_apart(correction: i32, next: i32) -> bool {
     apart == 1 || apart == -1
 }
 
-/// Whether a leap time comes at least 28 days after another one, less a second.
+/// Whether `next` comes at least 28 days, less a second, after the leap time `time`.
 const fn is_far_from(time: i64, next: i64) -> bool {
     time as i128 + SECONDS_PER_28_DAYS as i128 - 1 <= next as i128
 }
 
-/// Whether a leap second may follow another one.
+/// Whether the leap second `next` may come after `leap_second`.
 const fn may_follow(leap_second: &LeapSecond, next: &LeapSecond) -> bool {
     is_far_from(leap_second.unix_leap_time(), next.unix_leap_time())
         && is_one_second_apart(leap_second.correction(), next.correction())

@@ -330,38 +330,45 @@ pub fn file_sizes(bytes: &[u8]) -> Result<FileSizes, TzFileError> {
     })
 }
 
-/// The transition of a record. The size of its time is an argument, so that a caller with a
-/// constant has a loop of its own without a test.
-fn transition_at(size: TimeSize, unit: &Unit<'_>, index: u32) -> Transition {
-    let at = size.times_len(index) as usize;
-    let unix_leap_time = time_at(size, unit.block.times, at);
-    let local_time_type_index = unit.block.indexes[index as usize];
-    Transition::new(unix_leap_time, usize::from(local_time_type_index))
-}
-
-/// The transitions, in their order, with times of a size that the caller knows.
+/// The transitions, in their order, with times of four bytes.
 #[cfg(feature = "alloc")]
-fn read_transitions_of<A: Allocator + Copy>(
+fn read_short_transitions<A: Allocator + Copy>(
     alloc: A,
-    size: TimeSize,
     unit: &Unit<'_>,
 ) -> Result<Vec<Transition, A>, AllocError> {
     let mut transitions = Vec::with_capacity(alloc, unit.counts.transition as usize)?;
-    for i in 0..unit.counts.transition {
-        transitions.push_reserved(transition_at(size, unit, i));
-    }
+    let times = unit.block.times.chunks_exact(4);
+    transitions.extend(times.zip(unit.block.indexes).map(|(time, index)| {
+        Transition::new(i64::from(signed_at(time, 0)), usize::from(*index))
+    }))?;
     Ok(transitions)
 }
 
-/// The transitions, in their order.
+/// The transitions, in their order, with times of eight bytes.
+#[cfg(feature = "alloc")]
+fn read_long_transitions<A: Allocator + Copy>(
+    alloc: A,
+    unit: &Unit<'_>,
+) -> Result<Vec<Transition, A>, AllocError> {
+    let mut transitions = Vec::with_capacity(alloc, unit.counts.transition as usize)?;
+    let times = unit.block.times.chunks_exact(8);
+    transitions.extend(
+        times
+            .zip(unit.block.indexes)
+            .map(|(time, index)| Transition::new(long_signed_at(time, 0), usize::from(*index))),
+    )?;
+    Ok(transitions)
+}
+
+/// The transitions, in their order. Each size of times has a loop of its own, without a test.
 #[cfg(feature = "alloc")]
 fn read_transitions<A: Allocator + Copy>(
     alloc: A,
     unit: &Unit<'_>,
 ) -> Result<Vec<Transition, A>, AllocError> {
     match unit.size {
-        TimeSize::Four => read_transitions_of(alloc, TimeSize::Four, unit),
-        TimeSize::Eight => read_transitions_of(alloc, TimeSize::Eight, unit),
+        TimeSize::Four => read_short_transitions(alloc, unit),
+        TimeSize::Eight => read_long_transitions(alloc, unit),
     }
 }
 
@@ -449,7 +456,7 @@ fn indicator_at(indicators: &[u8], index: u32) -> u8 {
     indicators.get(index as usize).copied().unwrap_or(0)
 }
 
-/// Whether a type may have these indicators.
+/// Whether a type may have these two indicators: UT only with standard time.
 fn is_pair(std_wall: u8, ut_local: u8) -> bool {
     matches!((std_wall, ut_local), (0, 0) | (1, 0) | (1, 1))
 }
@@ -469,6 +476,41 @@ fn check_indicators(unit: &Unit<'_>) -> Result<(), TzFileError> {
         }
     }
     Ok(())
+}
+
+/// Whether all bytes are below a number. The loop takes no branch, and may be over many at once.
+fn are_below(bytes: &[u8], bound: usize) -> bool {
+    let mut greatest = 0;
+    for byte in bytes {
+        greatest = greatest.max(*byte);
+    }
+    usize::from(greatest) < bound
+}
+
+/// Whether a transition has an earlier leap time than another one.
+const fn is_earlier(change: Transition, next: Transition) -> bool {
+    change.unix_leap_time() < next.unix_leap_time()
+}
+
+/// Whether each transition comes before the next one. The loop takes no branch on the times, and
+/// reads each of them once.
+fn all_rise(transitions: &[Transition]) -> bool {
+    let Some((first, rest)) = transitions.split_first() else {
+        return true;
+    };
+    let mut rise = true;
+    let mut last = *first;
+    for next in rest {
+        rise &= is_earlier(last, *next);
+        last = *next;
+    }
+    rise
+}
+
+/// Whether the transitions of a unit rise and name types, whose number is given. If not, an exact
+/// check finds the first fault.
+fn are_sound(unit: &Unit<'_>, transitions: &[Transition], types: usize) -> bool {
+    are_below(unit.block.indexes, types) && all_rise(transitions)
 }
 
 /// The tables of a file.
@@ -538,7 +580,7 @@ fn read_footer(footer: &[u8], extended: bool) -> Result<Option<TransitionRule>, 
     }
 }
 
-/// The rule of a file that may have a footer.
+/// The rule of the footer's text. There is none in version 1, or if the text is empty.
 #[inline(always)]
 fn read_extra_rule(
     footer: Option<&[u8]>,
@@ -591,7 +633,10 @@ fn parse_tz_file<A: Allocator + Copy>(alloc: A, bytes: &[u8]) -> Result<TimeZone
     if !may_hold(frame.unit.version, &tables.leap_seconds) {
         return Err(TzError::TimeZone(TimeZoneError::InvalidLeapSecond));
     }
-    TimeZone::new(
+    let types = tables.local_time_types.len();
+    let are_sound = are_sound(&frame.unit, &tables.transitions, types);
+    TimeZone::with_transitions(
+        are_sound,
         tables.transitions,
         tables.local_time_types,
         tables.leap_seconds,

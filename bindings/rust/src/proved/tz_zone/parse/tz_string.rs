@@ -77,7 +77,7 @@ fn read_long_year_day(text: &[u8]) -> Result<(u16, &[u8]), TzStringError> {
 }
 
 /// The number of a month, a week or a week day of any length, and the rest of the bytes.
-fn read_long_short_number(text: &[u8]) -> Result<(u8, &[u8]), TzStringError> {
+fn read_long_date_number(text: &[u8]) -> Result<(u8, &[u8]), TzStringError> {
     let (digits, rest) = read_digits(text);
     Ok((digits.parse::<u8>()?, rest))
 }
@@ -100,10 +100,10 @@ fn read_year_day(text: &[u8]) -> Result<(u16, &[u8]), TzStringError> {
 }
 
 /// The number of a month, a week or a week day, and the rest of the bytes.
-fn read_short_number(text: &[u8]) -> Result<(u8, &[u8]), TzStringError> {
+fn read_date_number(text: &[u8]) -> Result<(u8, &[u8]), TzStringError> {
     match read_two_digits(text) {
         Some((number, rest)) => Ok((number, rest)),
-        None => read_long_short_number(text),
+        None => read_long_date_number(text),
     }
 }
 
@@ -277,11 +277,11 @@ fn read_usual_month_week_day(text: &[u8]) -> Option<(u8, u8, u8, &[u8])> {
 
 /// The month, the week and the week day after an `M`, of any length, and the rest of the bytes.
 fn read_long_month_week_day(text: &[u8]) -> Result<(MonthWeekDay, &[u8]), TzError> {
-    let (month, rest) = read_short_number(text)?;
+    let (month, rest) = read_date_number(text)?;
     let rest = expect_byte(rest, b'.')?;
-    let (week, rest) = read_short_number(rest)?;
+    let (week, rest) = read_date_number(rest)?;
     let rest = expect_byte(rest, b'.')?;
-    let (week_day, rest) = read_short_number(rest)?;
+    let (week_day, rest) = read_date_number(rest)?;
     Ok((MonthWeekDay::new(month, week, week_day)?, rest))
 }
 
@@ -445,7 +445,7 @@ fn named_type(
     LocalTimeType::new(ut_offset, is_dst, Some(name))
 }
 
-/// What the string denotes.
+/// The rule that the whole string denotes.
 fn read_text(text: &[u8], extended: bool) -> Result<TransitionRule, TzError> {
     let (std_name, rest) = read_name(text)?;
     let (std_offset, rest) = read_offset(rest)?;

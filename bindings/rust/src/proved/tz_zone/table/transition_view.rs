@@ -17,7 +17,7 @@ pub struct TransitionView<'a> {
 
 impl<'a> TransitionView<'a> {
     /// The view of these transitions for a caller that wants no count: a position may be guessed,
-    /// by reads that are not counted.
+    /// and several transitions read as an array.
     #[inline]
     #[must_use]
     pub const fn new(transitions: &'a [Transition]) -> Self {
@@ -81,10 +81,11 @@ impl<'a> TransitionView<'a> {
         self.may_guess
     }
 
-    /// The transition at an index, for a guess. No look is counted.
+    /// `N` transitions from an index on, if there are so many, for a caller that wants no count.
     #[inline]
     #[must_use]
-    pub const fn guessed_at(&self, index: usize) -> Transition {
-        self.transitions[index]
+    pub const fn chunk_at<const N: usize>(&self, index: usize) -> Option<&'a [Transition; N]> {
+        let (_, rest) = self.transitions.split_at(index);
+        rest.first_chunk()
     }
 }

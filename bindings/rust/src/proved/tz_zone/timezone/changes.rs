@@ -37,7 +37,7 @@ impl<'a> TimeZoneRef<'a> {
     #[inline]
     #[must_use]
     pub const fn segment_at(&self, unix_time: i64) -> Segment<'a> {
-        self.plain.segment_at(unix_time)
+        self.zone_data.segment_at(unix_time)
     }
 
     /// The first change after an instant, in Unix seconds, or `None` if the clock does not change
@@ -73,7 +73,7 @@ impl<'a> TimeZoneRef<'a> {
     #[inline]
     #[must_use]
     pub const fn following(&self, unix_time: i64) -> Option<Change<'a>> {
-        self.plain.following(unix_time)
+        self.zone_data.following(unix_time)
     }
 
     /// The first change after an instant, and the position after it, for the next call. `position`
@@ -85,7 +85,7 @@ impl<'a> TimeZoneRef<'a> {
         unix_time: i64,
         position: usize,
     ) -> Option<(Change<'a>, usize)> {
-        if let Some(found) = clock::change_after_last(&self.plain, unix_time, position) {
+        if let Some(found) = clock::change_after_last(&self.zone_data, unix_time, position) {
             return Some(found);
         }
         self.search_following(unix_time)
@@ -93,7 +93,7 @@ impl<'a> TimeZoneRef<'a> {
 
     /// The first change after an instant, and the position after it.
     const fn search_following(&self, unix_time: i64) -> Option<(Change<'a>, usize)> {
-        clock::find_following(&self.plain, unix_time)
+        clock::find_following(&self.zone_data, unix_time)
     }
 
     /// The last change before an instant, in Unix seconds, or `None` if the clock has not changed
@@ -115,7 +115,7 @@ impl<'a> TimeZoneRef<'a> {
     #[inline]
     #[must_use]
     pub const fn preceding(&self, unix_time: i64) -> Option<Change<'a>> {
-        self.plain.preceding(unix_time)
+        self.zone_data.preceding(unix_time)
     }
 
     /// The last change before an instant, and the position before it, for the next call. `position`
@@ -127,7 +127,7 @@ impl<'a> TimeZoneRef<'a> {
         unix_time: i64,
         position: usize,
     ) -> Option<(Change<'a>, usize)> {
-        if let Some(found) = clock::change_before_next(&self.plain, unix_time, position) {
+        if let Some(found) = clock::change_before_next(&self.zone_data, unix_time, position) {
             return Some(found);
         }
         self.search_preceding(unix_time)
@@ -135,7 +135,7 @@ impl<'a> TimeZoneRef<'a> {
 
     /// The last change before an instant, and the position before it.
     const fn search_preceding(&self, unix_time: i64) -> Option<(Change<'a>, usize)> {
-        clock::find_preceding(&self.plain, unix_time)
+        clock::find_preceding(&self.zone_data, unix_time)
     }
 
     /// The changes after an instant, in Unix seconds, in the order of time: the one that

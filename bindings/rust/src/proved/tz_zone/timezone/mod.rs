@@ -5,7 +5,7 @@ mod changes;
 pub(crate) mod files;
 pub(crate) mod settings;
 mod zone;
-mod zone_checks;
+pub(crate) mod zone_checks;
 pub(crate) mod zone_data;
 mod zone_names;
 mod zone_ref;

@@ -1,10 +1,11 @@
 // Generated from crates/tz_zone/src/timezone/zone.rt by bindings/erase: its contracts are cut. Change that file instead.
-//! Time zones that own their parts.
+//! Time zones that own their parts. Files are read in `parse/tz_file.rt`, zones are opened by
+//! settings and names in `settings.rt`, and changes are in `changes.rt`.
 
 #[cfg(feature = "alloc")]
 use super::zone_checks::{check_parts, offset_range};
 #[cfg(feature = "alloc")]
-use super::zone_data::lent;
+use super::zone_data::rule_ref;
 #[cfg(feature = "alloc")]
 use super::{LeapSecond, LocalTimeType, TimeZoneRef, Transition, TransitionRule};
 #[cfg(feature = "alloc")]
@@ -85,13 +86,32 @@ impl<A: Allocator + Copy> TimeZone<A> {
         leap_seconds: Vec<LeapSecond, A>,
         extra_rule: Option<TransitionRule>,
     ) -> Result<Self, TzError> {
+        TimeZone::with_transitions(
+            false,
+            transitions,
+            local_time_types,
+            leap_seconds,
+            extra_rule,
+        )
+    }
+
+    /// The zone with these parts, of which the transitions may be known to be sound.
+    pub(crate) fn with_transitions(
+        are_sound: bool,
+        transitions: Vec<Transition, A>,
+        local_time_types: Vec<LocalTimeType, A>,
+        leap_seconds: Vec<LeapSecond, A>,
+        extra_rule: Option<TransitionRule>,
+    ) -> Result<Self, TzError> {
         check_parts(
+            are_sound,
             &transitions,
             &local_time_types,
             &leap_seconds,
-            lent(&extra_rule),
+            rule_ref(&extra_rule),
         )?;
-        let (least_offset, greatest_offset) = offset_range(&local_time_types, lent(&extra_rule));
+        let (least_offset, greatest_offset) =
+            offset_range(&local_time_types, rule_ref(&extra_rule));
         Ok(TimeZone {
             transitions,
             local_time_types,

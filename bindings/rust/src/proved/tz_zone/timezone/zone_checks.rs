@@ -39,6 +39,19 @@ const fn check_transitions(transitions: &[Transition], types: usize) -> Result<(
     Ok(())
 }
 
+/// Whether transitions can be those of a zone with so many types, without a look at any if they are
+/// known to be sound.
+const fn check_unless_sound(
+    are_sound: bool,
+    transitions: &[Transition],
+    types: usize,
+) -> Result<(), TimeZoneError> {
+    if are_sound {
+        return Ok(());
+    }
+    check_transitions(transitions, types)
+}
+
 /// The type that a rule has where a leap time takes effect.
 const fn rule_type_at<'a>(
     rule: RuleRef<'a>,
@@ -79,8 +92,10 @@ const fn check_extra_rule(
     Ok(())
 }
 
-/// Checks the parts of a zone, in the order of their errors.
+/// Checks the parts of a zone, in the order of their errors. The transitions may be known to be
+/// sound.
 pub(crate) const fn check_parts(
+    are_sound: bool,
     transitions: &[Transition],
     local_time_types: &[LocalTimeType],
     leap_seconds: &[LeapSecond],
@@ -89,7 +104,7 @@ pub(crate) const fn check_parts(
     if local_time_types.is_empty() {
         return Err(TzError::TimeZone(TimeZoneError::NoLocalTimeType));
     }
-    if let Err(error) = check_transitions(transitions, local_time_types.len()) {
+    if let Err(error) = check_unless_sound(are_sound, transitions, local_time_types.len()) {
         return Err(TzError::TimeZone(error));
     }
     if !are_leap_seconds(leap_seconds) {
@@ -98,7 +113,7 @@ pub(crate) const fn check_parts(
     check_extra_rule(transitions, local_time_types, leap_seconds, extra_rule)
 }
 
-/// The range of offsets from `least` to `greatest`, widened just enough to have another one.
+/// The range of offsets from `least` to `greatest`, widened just enough to hold `offset`.
 const fn with_offset(least: i32, greatest: i32, offset: i32) -> (i32, i32) {
     (
         crate::shim::least!(least, offset),

@@ -2,7 +2,7 @@
 //! Zones as plain data, whose tables and rule another owner has.
 
 use super::zone_checks::{check_parts, offset_range};
-use super::{Change, LeapSecond, LocalTimeType, Segment, Transition, TransitionRule};
+use super::{Change, LeapSecond, LocalTimeType, Segment, TimeZoneRef, Transition, TransitionRule};
 use crate::proved::tz_base::error::TzError;
 use crate::proved::tz_rule::inner::RuleRef;
 use crate::proved::tz_zone::clock::{self, find_following, find_preceding};
@@ -19,9 +19,9 @@ pub struct ZoneData<'a> {
     greatest_offset: i32,
 }
 
-/// Lends a rule, if there is one.
+/// A reference to a rule, if there is one.
 #[inline]
-pub(super) const fn lent(extra_rule: &Option<TransitionRule>) -> Option<RuleRef<'_>> {
+pub(super) const fn rule_ref(extra_rule: &Option<TransitionRule>) -> Option<RuleRef<'_>> {
     match extra_rule {
         Some(rule) => Some(RuleRef::of(rule)),
         None => None,
@@ -29,7 +29,13 @@ pub(super) const fn lent(extra_rule: &Option<TransitionRule>) -> Option<RuleRef<
 }
 
 impl<'a> ZoneData<'a> {
-    /// The zone with these parts, which are checked as `TimeZoneRef::new` checks them.
+    /// The data of a zone.
+    #[must_use]
+    pub const fn of(zone: &TimeZoneRef<'a>) -> Self {
+        zone.zone_data
+    }
+
+    /// The zone with these parts, once they are checked.
     #[inline]
     pub const fn new(
         transitions: &'a [Transition],
@@ -37,7 +43,7 @@ impl<'a> ZoneData<'a> {
         leap_seconds: &'a [LeapSecond],
         rule: Option<RuleRef<'a>>,
     ) -> Result<Self, TzError> {
-        match check_parts(transitions, local_time_types, leap_seconds, rule) {
+        match check_parts(false, transitions, local_time_types, leap_seconds, rule) {
             Ok(value) => value,
             Err(error) => return Err(error),
         };
@@ -95,7 +101,7 @@ impl<'a> ZoneData<'a> {
         self.leap_seconds
     }
 
-    /// The rule from the last transition on, lent.
+    /// The rule from the last transition on.
     #[inline]
     #[must_use]
     pub const fn rule(&self) -> Option<RuleRef<'a>> {
@@ -109,14 +115,14 @@ impl<'a> ZoneData<'a> {
         (self.least_offset, self.greatest_offset)
     }
 
-    /// The clock's type at an instant, as `TimeZoneRef::find_local_time_type` answers it.
+    /// The clock's type at an instant.
     #[inline(always)]
     pub const fn find_local_time_type(&self, unix_time: i64) -> Result<&'a LocalTimeType, TzError> {
         let mut view = TransitionView::new(self.transitions);
         clock::find_local_time_type(&mut view, self, unix_time)
     }
 
-    /// The segment around an instant, as `TimeZoneRef::segment_at` answers it.
+    /// The segment around an instant: the type of the clock, and from when until when it has it.
     #[inline]
     #[must_use]
     pub const fn segment_at(&self, unix_time: i64) -> Segment<'a> {
@@ -124,7 +130,7 @@ impl<'a> ZoneData<'a> {
         clock::clock_segment_at(&mut view, self, unix_time)
     }
 
-    /// The first change after an instant, as `TimeZoneRef::following` answers it.
+    /// The first change of the clock after an instant.
     #[inline]
     #[must_use]
     pub const fn following(&self, unix_time: i64) -> Option<Change<'a>> {
@@ -135,7 +141,7 @@ impl<'a> ZoneData<'a> {
         Some(change)
     }
 
-    /// The last change before an instant, as `TimeZoneRef::preceding` answers it.
+    /// The last change of the clock before an instant.
     #[inline]
     #[must_use]
     pub const fn preceding(&self, unix_time: i64) -> Option<Change<'a>> {

@@ -1,7 +1,7 @@
 // Generated from crates/tz_zone/src/timezone/zone_ref.rt by bindings/erase: its contracts are cut. Change that file instead.
 //! Borrowed time zones.
 
-use super::zone_data::{ZoneData, lent};
+use super::zone_data::{ZoneData, rule_ref};
 use super::{LeapSecond, LocalTimeType, Transition, TransitionRule};
 use crate::proved::tz_base::error::TzError;
 use crate::proved::tz_zone::clock;
@@ -16,16 +16,16 @@ use core::hash::{Hash, Hasher};
 /// does.
 #[derive(Clone, Copy)]
 pub struct TimeZoneRef<'a> {
-    pub(crate) plain: ZoneData<'a>,
-    // The rule that `plain` keeps, as `extra_rule` returns it.
+    pub(crate) zone_data: ZoneData<'a>,
+    // The rule that `zone_data` keeps, as `extra_rule` returns it.
     extra_rule: &'a Option<TransitionRule>,
 }
 
 impl<'a> PartialEq for TimeZoneRef<'a> {
     fn eq(&self, other: &TimeZoneRef<'a>) -> bool {
-        self.plain.transitions == other.plain.transitions
-            && self.plain.local_time_types == other.plain.local_time_types
-            && self.plain.leap_seconds == other.plain.leap_seconds
+        self.zone_data.transitions == other.zone_data.transitions
+            && self.zone_data.local_time_types == other.zone_data.local_time_types
+            && self.zone_data.leap_seconds == other.zone_data.leap_seconds
             && self.extra_rule == other.extra_rule
     }
 }
@@ -34,9 +34,9 @@ impl<'a> Eq for TimeZoneRef<'a> {}
 
 impl<'a> Hash for TimeZoneRef<'a> {
     fn hash<H: Hasher>(&self, state: &mut H) {
-        self.plain.transitions.hash(state);
-        self.plain.local_time_types.hash(state);
-        self.plain.leap_seconds.hash(state);
+        self.zone_data.transitions.hash(state);
+        self.zone_data.local_time_types.hash(state);
+        self.zone_data.leap_seconds.hash(state);
         self.extra_rule.hash(state);
     }
 }
@@ -86,12 +86,15 @@ impl<'a> TimeZoneRef<'a> {
         leap_seconds: &'a [LeapSecond],
         extra_rule: &'a Option<TransitionRule>,
     ) -> Result<Self, TzError> {
-        let rule = lent(extra_rule);
-        let plain = match ZoneData::new(transitions, local_time_types, leap_seconds, rule) {
+        let rule = rule_ref(extra_rule);
+        let zone_data = match ZoneData::new(transitions, local_time_types, leap_seconds, rule) {
             Ok(value) => value,
             Err(error) => return Err(error),
         };
-        Ok(TimeZoneRef { plain, extra_rule })
+        Ok(TimeZoneRef {
+            zone_data,
+            extra_rule,
+        })
     }
 
     /// The zone with parts that are known to make one, and with its least and its greatest offset.
@@ -103,15 +106,18 @@ impl<'a> TimeZoneRef<'a> {
         least_offset: i32,
         greatest_offset: i32,
     ) -> Self {
-        let plain = ZoneData::from_valid_parts(
+        let zone_data = ZoneData::from_valid_parts(
             transitions,
             local_time_types,
             leap_seconds,
-            lent(extra_rule),
+            rule_ref(extra_rule),
             least_offset,
             greatest_offset,
         );
-        TimeZoneRef { plain, extra_rule }
+        TimeZoneRef {
+            zone_data,
+            extra_rule,
+        }
     }
 
     /// The zone of UTC. Does not allocate.
@@ -130,26 +136,26 @@ impl<'a> TimeZoneRef<'a> {
     /// The transitions, in order.
     #[must_use]
     pub const fn transitions(&self) -> &'a [Transition] {
-        self.plain.transitions
+        self.zone_data.transitions
     }
 
     /// The local time types, which the transitions name by their numbers.
     #[must_use]
     pub const fn local_time_types(&self) -> &'a [LocalTimeType] {
-        self.plain.local_time_types
+        self.zone_data.local_time_types
     }
 
     /// The leap seconds, in order.
     #[must_use]
     pub const fn leap_seconds(&self) -> &'a [LeapSecond] {
-        self.plain.leap_seconds
+        self.zone_data.leap_seconds
     }
 
     /// The leap time at which the leap-second table expires: that of a last record that repeats the
     /// correction before it. `None` if there is no such record.
     #[must_use]
     pub fn leap_expiry(&self) -> Option<i64> {
-        expiry(self.plain.leap_seconds)
+        expiry(self.zone_data.leap_seconds)
     }
 
     /// The rule from the last transition on.
@@ -175,7 +181,7 @@ impl<'a> TimeZoneRef<'a> {
     ///   table that begins late, or because the leap time does not fit an `i64`.
     #[inline(always)]
     pub const fn find_local_time_type(&self, unix_time: i64) -> Result<&'a LocalTimeType, TzError> {
-        self.plain.find_local_time_type(unix_time)
+        self.zone_data.find_local_time_type(unix_time)
     }
 
     /// The clock's type at an instant, and how many transitions were read. The count saturates at
@@ -188,8 +194,8 @@ impl<'a> TimeZoneRef<'a> {
         &self,
         unix_time: i64,
     ) -> (Result<&'a LocalTimeType, TzError>, u64) {
-        let mut view = TransitionView::counted(self.plain.transitions);
-        let answer = clock::find_local_time_type(&mut view, &self.plain, unix_time);
+        let mut view = TransitionView::counted(self.zone_data.transitions);
+        let answer = clock::find_local_time_type(&mut view, &self.zone_data, unix_time);
         (answer, view.looks())
     }
 }
@@ -198,9 +204,9 @@ impl<'a> TimeZoneRef<'a> {
 impl fmt::Debug for TimeZoneRef<'_> {
     fn fmt(&self, f: &mut fmt::Formatter<'_>) -> fmt::Result {
         f.debug_struct("TimeZoneRef")
-            .field("transitions", &self.plain.transitions)
-            .field("local_time_types", &self.plain.local_time_types)
-            .field("leap_seconds", &self.plain.leap_seconds)
+            .field("transitions", &self.zone_data.transitions)
+            .field("local_time_types", &self.zone_data.local_time_types)
+            .field("leap_seconds", &self.zone_data.leap_seconds)
             .field("extra_rule", &self.extra_rule)
             .finish()
     }

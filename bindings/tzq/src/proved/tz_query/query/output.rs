@@ -1,16 +1,11 @@
 // Generated from crates/tz_query/src/query/output.rt by bindings/erase: its contracts are cut. Change that file instead.
-//! Answers on their way out: a page of them, and the streams.
+//! Answers on their way out: a page of them, and all before it.
 
-use super::answers::Suffix;
 use super::read_query::Nanoseconds;
-use crate::proved::tz_query::query::answers::answer;
+use super::suffixes::Suffix;
 use crate::shim::Vec;
 use crate::shim::alloc::{AllocError, Allocator};
-use crate::shim::io::{Read, Write};
-use core::{error, fmt};
-use tz::proved::tz::TimeZoneRef;
-use tz::proved::tz::error::ReadFault;
-use tz::proved::tz::inner::{Fields, TextBuffer, middle_of, read_to_end, two_pairs};
+use tz::proved::tz::inner::{Fields, TextBuffer, middle_of, two_pairs};
 
 /// What writing returns: nothing, or that an allocation failed.
 pub type Written = Result<(), AllocError>;
@@ -152,10 +147,10 @@ impl Page {
     /// Appends what follows the year on the line of a date time: month to second, the nanoseconds,
     /// and the suffix of its type.
     #[inline(always)]
-    fn push_rest(&mut self, middle: &[u8; 16], nine: &[u8; 9], suffix: &Suffix) {
+    fn push_rest(&mut self, middle: &[u8; 16], digits: &[u8; 9], suffix: &Suffix) {
         let at = self.len;
         self.bytes[at..at + 16].copy_from_slice(middle);
-        self.bytes[at + 16..at + 25].copy_from_slice(nine);
+        self.bytes[at + 16..at + 25].copy_from_slice(digits);
         self.bytes[at + 25..at + 57].copy_from_slice(&suffix.bytes);
         self.len = at + 25 + suffix.len;
     }
@@ -168,72 +163,3 @@ impl Page {
         self.push_rest(&middle_of(fields), &nanoseconds.digits, suffix);
     }
 }
-
-/// Why a run ends without all answers.
-#[derive(Debug)]
-pub enum RunFault {
-    /// A read of the queries failed.
-    Read,
-    /// The queries or their answers ran out of memory.
-    Memory,
-    /// A write of the answers failed, or accepted no byte.
-    Write,
-}
-
-/// Writes the bytes as far as can be, and returns whether all are written.
-pub(super) fn write_front<W: Write>(out: &mut W, bytes: &[u8]) -> bool {
-    let mut rest = bytes;
-    while !rest.is_empty() {
-        let Ok(count @ 1..) = out.write(rest) else {
-            return false;
-        };
-        rest = &rest[count..];
-    }
-    true
-}
-
-/// The initial capacity for input. Memory that is not written to costs little.
-const FIRST_ROOM: usize = 262_144;
-
-/// Reads the input to its end, and then writes the answers of its lines over a zone, as [`answer`]
-/// makes them.
-///
-/// # Errors
-///
-/// The first of these:
-///
-/// - [`RunFault::Read`] if a read of the queries fails;
-/// - [`RunFault::Memory`] if an allocation for the queries or their answers fails;
-/// - [`RunFault::Write`] if a write of the answers fails, or accepts no byte.
-///
-/// After the first two the writer is as it was; after the last a prefix of the answers may have
-/// been written.
-pub fn run<A: Allocator + Copy, R: Read, W: Write>(
-    alloc: A,
-    zone: TimeZoneRef<'_>,
-    input: &mut R,
-    out: &mut W,
-) -> Result<(), RunFault> {
-    let queries = read_to_end(alloc, input, FIRST_ROOM).map_err(|fault| match fault {
-        ReadFault::Memory(_) => RunFault::Memory,
-        ReadFault::Failed(_) => RunFault::Read,
-    })?;
-    let answers = answer(alloc, zone, &queries).map_err(|_| RunFault::Memory)?;
-    if write_front(out, &answers) {
-        Ok(())
-    } else {
-        Err(RunFault::Write)
-    }
-}
-
-impl fmt::Display for RunFault {
-    fn fmt(&self, f: &mut fmt::Formatter<'_>) -> fmt::Result {
-        match self {
-            RunFault::Read => f.write_str("cannot read queries"),
-            RunFault::Memory => f.write_str("no memory"),
-            RunFault::Write => f.write_str("cannot write answers"),
-        }
-    }
-}
-
-impl error::Error for RunFault {}

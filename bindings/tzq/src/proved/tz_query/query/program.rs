@@ -2,7 +2,7 @@
 //! The program over arguments, a file reader, an input and outputs that are passed in.
 
 use super::read_query::read_number;
-use crate::proved::tz_query::query::output::{RunFault, run, write_front};
+use crate::proved::tz_query::query::streams::{RunFault, run, write_front};
 use crate::shim::ArrayString;
 use crate::shim::Vec;
 use crate::shim::alloc::Allocator;

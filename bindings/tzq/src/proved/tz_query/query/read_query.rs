@@ -124,27 +124,30 @@ impl Nanoseconds {
     }
 }
 
-/// The instant of the first line, if it is a `T` line of usual numbers, and the bytes after it. Its
-/// nanoseconds are copied to `nine`, as nine digits.
+/// The instant of the first line, if it is a `T` line of usual numbers, and the bytes after it. The
+/// nine digits of its nanoseconds are copied to `digits`.
 ///
 /// A line that begins in the last 47 bytes is left to `read_query`: so no read here has to test
 /// where the queries end.
 #[inline(always)]
-pub fn read_usual_time_line<'a>(queries: &'a [u8], nine: &mut [u8; 9]) -> Option<(i64, &'a [u8])> {
+pub fn read_usual_time_line<'a>(
+    queries: &'a [u8],
+    digits: &mut [u8; 9],
+) -> Option<(i64, &'a [u8])> {
     if queries.len() < 48 || queries[0] != b'T' {
         return None;
     }
     let (unix_time, after_seconds) = read_usual_number(queries, 1)?;
-    let next = read_nanoseconds(queries, after_seconds, nine)?;
+    let next = read_nanoseconds(queries, after_seconds, digits)?;
     Some((unix_time, &queries[next..]))
 }
 
-/// The fields of the first line, if it is an `F` line of usual numbers, and the bytes after it. Its
-/// nanoseconds are copied to `nine`, as nine digits, and are 0 in the fields.
+/// The fields of the first line, if it is an `F` line of usual numbers, and the bytes after it. The
+/// nine digits of its nanoseconds are copied to `digits`, and the fields have 0.
 #[inline(always)]
 pub fn read_usual_search_line<'a>(
     queries: &'a [u8],
-    nine: &mut [u8; 9],
+    digits: &mut [u8; 9],
 ) -> Option<(Fields, &'a [u8])> {
     if queries.len() < 48 || queries[0] != b'F' {
         return None;
@@ -159,7 +162,7 @@ pub fn read_usual_search_line<'a>(
     let (hour, after_hour) = read_small(queries, after_day + 1)?;
     let (minute, after_minute) = read_small(queries, after_hour + 1)?;
     let (second, after_second) = read_small(queries, after_minute + 1)?;
-    let next = read_nanoseconds(queries, after_second, nine)?;
+    let next = read_nanoseconds(queries, after_second, digits)?;
     let fields = Fields::new(year, month, month_day, hour, minute, second, 0);
     Some((fields, &queries[next..]))
 }
@@ -200,14 +203,14 @@ fn read_usual_number(bytes: &[u8], position: usize) -> Option<(i64, usize)> {
     Some((size as i64, end))
 }
 
-/// Copies the number of up to nine digits after a space at a position and before LF to `nine`,
+/// Copies the number of up to nine digits after a space at a position and before LF to `digits`,
 /// left-padded with zeros. Returns the position after LF.
 ///
 /// The nine bytes before LF are copied, and those before the digits overwritten: so a number that
 /// ends within the first nine bytes is left to `read_query`.
 #[allow(clippy::needless_range_loop)]
 #[inline(always)]
-fn read_nanoseconds(bytes: &[u8], position: usize, nine: &mut [u8; 9]) -> Option<usize> {
+fn read_nanoseconds(bytes: &[u8], position: usize, digits: &mut [u8; 9]) -> Option<usize> {
     if bytes[position] != b' ' {
         return None;
     }
@@ -215,15 +218,15 @@ fn read_nanoseconds(bytes: &[u8], position: usize, nine: &mut [u8; 9]) -> Option
     let (count, _) = dec2flt::read_digits(&bytes[start..start + 9], 0, 0);
     let end = start + count;
     if count == 9 && bytes[end] == b'\n' {
-        nine.copy_from_slice(&bytes[start..end]);
+        digits.copy_from_slice(&bytes[start..end]);
         return Some(end + 1);
     }
     if count == 0 || end < 9 || bytes[end] != b'\n' {
         return None;
     }
-    nine.copy_from_slice(&bytes[end - 9..end]);
+    digits.copy_from_slice(&bytes[end - 9..end]);
     for index in 0..9 - count {
-        nine[index] = b'0';
+        digits[index] = b'0';
     }
     Some(end + 1)
 }

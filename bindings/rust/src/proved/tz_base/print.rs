@@ -1,11 +1,12 @@
-// Generated from crates/tz/src/print.rt by bindings/erase: its contracts are cut. Change that file instead.
+// Generated from crates/tz_base/src/print.rt by bindings/erase: its contracts are cut. Change that file instead.
 //! How dates, times and offsets are printed.
 
-use crate::proved::tz::text_buffer::{TextBuffer, pair_of};
 use crate::proved::tz_base::fields::Fields;
+use crate::proved::tz_base::text_buffer::{TextBuffer, pair_of};
 
 /// What stands between the year and the nanoseconds: month and day, and the time of day up to the
 /// point.
+#[inline]
 #[must_use]
 pub fn middle_of(fields: &Fields) -> [u8; 16] {
     let (month, day) = (pair_of(fields.month), pair_of(fields.month_day));
@@ -19,6 +20,7 @@ pub fn middle_of(fields: &Fields) -> [u8; 16] {
 
 impl TextBuffer {
     /// Appends a year.
+    #[inline]
     pub fn push_year(&mut self, year: i32) {
         if year < 0 {
             self.push(b'-');
@@ -27,6 +29,7 @@ impl TextBuffer {
     }
 
     /// Appends hours, with two digits at least.
+    #[inline]
     fn push_hours(&mut self, hours: u32) {
         if hours < 100 {
             self.push_two_digits(hours as u8);
@@ -36,7 +39,8 @@ impl TextBuffer {
     }
 
     /// Appends :ss unless the seconds are zero.
-    pub(crate) fn push_seconds(&mut self, seconds: u8) {
+    #[inline]
+    pub fn push_seconds(&mut self, seconds: u8) {
         if seconds != 0 {
             self.push(b':');
             self.push_two_digits(seconds);
@@ -44,6 +48,7 @@ impl TextBuffer {
     }
 
     /// Appends hh:mm, and :ss unless the seconds are zero.
+    #[inline]
     fn push_duration(&mut self, seconds: u32) {
         let hours = seconds / 3600;
         let minutes = (seconds / 60 % 60) as u8;
@@ -60,6 +65,7 @@ impl TextBuffer {
     }
 
     /// Appends `Z`, or the sign and the size of an offset in seconds.
+    #[inline]
     pub fn push_offset(&mut self, ut_offset: i32) {
         if ut_offset == 0 {
             self.push(b'Z');
@@ -73,6 +79,7 @@ impl TextBuffer {
     }
 
     /// Appends the printed date time of the fields and an offset in seconds.
+    #[inline]
     pub fn push_date_time(&mut self, fields: &Fields, ut_offset: i32) {
         self.push_year(fields.year);
         self.push_ascii(&middle_of(fields));

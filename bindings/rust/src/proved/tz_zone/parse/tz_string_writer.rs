@@ -1,9 +1,10 @@
-// Generated from crates/tz/src/tz_string_writer.rt by bindings/erase: its contracts are cut. Change that file instead.
+// Generated from crates/tz_zone/src/parse/tz_string_writer.rt by bindings/erase: its contracts are cut. Change that file instead.
 //! Writes the TZ strings of rules.
 
-use crate::proved::tz::text_buffer::TextBuffer;
-use crate::proved::tz_zone::inner::{DEFAULT_HOUR, DEFAULT_SAVING};
-use crate::proved::tz_zone::timezone::{AlternateTime, LocalTimeType, RuleDay, TransitionRule};
+use crate::proved::tz_base::text_buffer::TextBuffer;
+use crate::proved::tz_rule::inner::designation_bytes;
+use crate::proved::tz_rule::timezone::{AlternateTime, LocalTimeType, RuleDay, TransitionRule};
+use crate::proved::tz_zone::parse::tz_string::{DEFAULT_HOUR, DEFAULT_SAVING};
 use core::fmt;
 
 /// The TZ string of a rule, which is made without an allocation. (POSIX.1-2017, Base Definitions,
@@ -65,17 +66,17 @@ fn are_letters(bytes: &[u8]) -> bool {
 }
 
 /// Whether a name needs no angle brackets.
-fn is_bare_name(name: &str) -> bool {
-    name.len() > 2 && are_letters(name.as_bytes())
+fn is_bare_name(name: &[u8]) -> bool {
+    name.len() > 2 && are_letters(name)
 }
 
 /// Appends a name, in angle brackets if it needs them.
-fn push_name(buffer: &mut TextBuffer, name: &str) {
+fn push_name(buffer: &mut TextBuffer, name: &[u8]) {
     if is_bare_name(name) {
-        buffer.push_str(name);
+        buffer.push_ascii(name);
     } else {
         buffer.push(b'<');
-        buffer.push_str(name);
+        buffer.push_ascii(name);
         buffer.push(b'>');
     }
 }
@@ -99,8 +100,8 @@ fn push_day(buffer: &mut TextBuffer, day: &RuleDay) {
     }
 }
 
-/// Appends when one of the two times begins: a comma, the day, and after a slash the time of day,
-/// unless it is two o'clock.
+/// Appends a day on which daylight saving time starts or ends: a comma, the day, and after a slash
+/// the time of day, unless it is two o'clock.
 fn push_switch(buffer: &mut TextBuffer, day: &RuleDay, time: i32) {
     buffer.push(b',');
     push_day(buffer, day);
@@ -112,14 +113,14 @@ fn push_switch(buffer: &mut TextBuffer, day: &RuleDay, time: i32) {
 
 /// Appends the name of a type and its offset.
 fn push_name_and_offset(buffer: &mut TextBuffer, local_time_type: &LocalTimeType) {
-    push_name(buffer, local_time_type.time_zone_designation());
+    push_name(buffer, designation_bytes(local_time_type));
     push_offset(buffer, local_time_type.ut_offset());
 }
 
 /// Appends the daylight name, its offset unless it is an hour more than the standard one, the start
 /// and the end.
 fn push_daylight(buffer: &mut TextBuffer, rule: &AlternateTime) {
-    push_name(buffer, rule.dst().time_zone_designation());
+    push_name(buffer, designation_bytes(rule.dst()));
     if rule.dst().ut_offset() != rule.std().ut_offset() + DEFAULT_SAVING {
         push_offset(buffer, rule.dst().ut_offset());
     }
@@ -130,14 +131,15 @@ fn push_daylight(buffer: &mut TextBuffer, rule: &AlternateTime) {
 /// Whether a TZ string can begin with the type.
 fn is_standard(local_time_type: &LocalTimeType) -> bool {
     !local_time_type.is_dst()
-        && !local_time_type.time_zone_designation().is_empty()
+        && !designation_bytes(local_time_type).is_empty()
         && is_short_offset(local_time_type.ut_offset())
 }
 
-/// Whether the type can follow standard time with this offset.
+/// Whether a TZ string can have the type as daylight saving time after standard time with the
+/// offset `std`.
 fn is_daylight(std: i32, local_time_type: &LocalTimeType) -> bool {
     local_time_type.is_dst()
-        && !local_time_type.time_zone_designation().is_empty()
+        && !designation_bytes(local_time_type).is_empty()
         && (is_short_offset(local_time_type.ut_offset())
             || local_time_type.ut_offset() == std + DEFAULT_SAVING)
 }

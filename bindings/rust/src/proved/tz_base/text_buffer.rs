@@ -1,4 +1,4 @@
-// Generated from crates/tz/src/text_buffer.rt by bindings/erase: its contracts are cut. Change that file instead.
+// Generated from crates/tz_base/src/text_buffer.rt by bindings/erase: its contracts are cut. Change that file instead.
 //! Text that is made without an allocation.
 
 /// Text of at most 128 bytes, which is made without an allocation.
@@ -14,6 +14,7 @@ static PAIRS: [u8; 200] =
     *b"00010203040506070809101112131415161718192021222324252627282930313233343536373839404142434445464748495051525354555657585960616263646566676869707172737475767778798081828384858687888990919293949596979899";
 
 /// The two digits of a number below 100.
+#[inline]
 #[must_use]
 pub fn pair_of(number: u8) -> [u8; 2] {
     let position = usize::from(number) * 2;
@@ -23,6 +24,7 @@ pub fn pair_of(number: u8) -> [u8; 2] {
 }
 
 /// The digits of a number that has four: the first two, and the last two.
+#[inline]
 #[must_use]
 pub fn two_pairs(number: u32) -> ([u8; 2], [u8; 2]) {
     (pair_of((number / 100) as u8), pair_of((number % 100) as u8))
@@ -30,6 +32,7 @@ pub fn two_pairs(number: u32) -> ([u8; 2], [u8; 2]) {
 
 impl TextBuffer {
     /// An empty text.
+    #[inline]
     #[must_use]
     pub const fn new() -> Self {
         TextBuffer {
@@ -45,24 +48,28 @@ impl TextBuffer {
     }
 
     /// The text's bytes.
+    #[inline]
     #[must_use]
     pub const fn as_bytes(&self) -> &[u8] {
         self.bytes.split_at(self.len).0
     }
 
     /// The text.
+    #[inline]
     #[must_use]
     pub const fn as_str(&self) -> &str {
         crate::shim::text(self.as_bytes())
     }
 
     /// Appends an ASCII byte.
+    #[inline]
     pub fn push(&mut self, byte: u8) {
         self.bytes[self.len] = byte;
         self.len += 1;
     }
 
     /// Appends a text.
+    #[cfg(feature = "inner")]
     pub fn push_str(&mut self, text: &str) {
         let end = self.len + text.len();
         self.bytes[self.len..end].copy_from_slice(text.as_bytes());
@@ -70,18 +77,21 @@ impl TextBuffer {
     }
 
     /// Appends ASCII bytes.
-    pub(crate) fn push_ascii(&mut self, bytes: &[u8]) {
+    #[inline]
+    pub fn push_ascii(&mut self, bytes: &[u8]) {
         let end = self.len + bytes.len();
         self.bytes[self.len..end].copy_from_slice(bytes);
         self.len = end;
     }
 
     /// Appends a number below 100 as two digits.
-    pub(crate) fn push_two_digits(&mut self, number: u8) {
+    #[inline]
+    pub fn push_two_digits(&mut self, number: u8) {
         self.push_ascii(&pair_of(number));
     }
 
     /// Appends nanoseconds as nine digits.
+    #[inline]
     pub fn push_nine_digits(&mut self, number: u32) {
         let high = number / 10_000;
         let low = number % 10_000;
@@ -98,7 +108,7 @@ impl TextBuffer {
     }
 
     /// Appends the digits of a number.
-    pub(crate) fn push_digits(&mut self, number: u64) {
+    pub fn push_digits(&mut self, number: u64) {
         if number < 10 {
             self.push(b'0' + number as u8);
         } else if number < 100 {
@@ -111,6 +121,7 @@ impl TextBuffer {
 
     /// Appends the digits of a number, of which there are ten at most.
     #[allow(clippy::manual_range_contains)]
+    #[inline]
     pub fn push_decimal(&mut self, number: u32) {
         if number >= 1000 && number < 10_000 {
             let (front, back) = two_pairs(number);
