@@ -12,5 +12,5 @@ pub use crate::datetime::utc_date_time::utc_fields_of;
 pub use crate::parse::{read_digits, value_of};
 pub use tz_base::fields::{Fields, is_reading, local_reading};
 pub use tz_base::print::middle_of;
-pub use tz_base::text_buffer::{TextBuffer, two_pairs};
+pub use tz_base::text_buffer::{TextBuffer, pair_of, two_pairs};
 pub use tz_zone::inner::{WindowTypes, ZoneData, after_byte, read_to_end};

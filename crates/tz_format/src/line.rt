@@ -6,6 +6,7 @@ ghost use Rattle.tz.specs.PrintedText.{two_digits};
 
 use std::marker::Model;
 use std::str;
+use tz::inner::pair_of;
 
 /// Bytes of a line, at most 128. They are text once all of them stand there: those of one
 /// character come one by one.
@@ -23,21 +24,6 @@ impl Model for Line {
     ghost view = { λ line. take line.len line.bytes };
 
     ghost invariant = { λ line. line.len ≤ 128 };
-}
-
-/// The two digits of each number below 100, in order.
-static PAIRS: [u8; 200] =
-    *b"00010203040506070809101112131415161718192021222324252627282930313233343536373839404142434445464748495051525354555657585960616263646566676869707172737475767778798081828384858687888990919293949596979899";
-
-/// The two digits of a number below 100.
-pub(crate) fn pair_of(number: u8) -> [u8; 2]
-    requires { number < 100 }
-    ensures { result ≡ two_digits number }
-{
-    let position = usize::from(number) * 2;
-    let mut pair = [0; 2];
-    pair.copy_from_slice(&PAIRS[position..position + 2]);
-    pair
 }
 
 impl Line {

@@ -16,9 +16,10 @@ ghost use Rattle.tz_format.specs.Widths.{conversion_width};
 ghost use Rattle.tz_format.specs.declared.conversion.Conversion.TheVariants.{Hour};
 
 use crate::conversion::{Conversion, conversion_at};
-use crate::line::{Line, pair_of};
+use crate::line::Line;
 use crate::moment::Moment;
 use crate::weeks::{days_since_monday, week_of, week_of_year};
+use tz::inner::pair_of;
 use tz_base::fields::Fields;
 
 /// The name of a month.

@@ -22,9 +22,9 @@ pub use crate::proved::tz::parse::{read_digits, value_of};
 pub use crate::proved::tz_base::fields::{Fields, is_reading, local_reading};
 #[cfg(feature = "inner")]
 pub use crate::proved::tz_base::print::middle_of;
-pub use crate::proved::tz_base::text_buffer::TextBuffer;
 #[cfg(feature = "inner")]
 pub use crate::proved::tz_base::text_buffer::two_pairs;
+pub use crate::proved::tz_base::text_buffer::{TextBuffer, pair_of};
 #[cfg(feature = "inner")]
 pub use crate::proved::tz_zone::inner::after_byte;
 #[cfg(all(feature = "std", feature = "inner"))]

@@ -1,9 +1,10 @@
 // Generated from crates/tz_format/src/print.rt by bindings/erase: its contracts are cut. Change that file instead.
 //! What conversions print.
 
+use crate::proved::tz::inner::pair_of;
 use crate::proved::tz_base::fields::Fields;
 use crate::proved::tz_format::conversion::{Conversion, conversion_at};
-use crate::proved::tz_format::line::{Line, pair_of};
+use crate::proved::tz_format::line::Line;
 use crate::proved::tz_format::moment::Moment;
 use crate::proved::tz_format::weeks::{days_since_monday, week_of, week_of_year};
 
