@@ -37,7 +37,7 @@ class Source:
         self.path = path
         self.text, self.texts = hidden(path, text)
         self.tokens, found = all_items(path, self.text)
-        # Members come before what has them.
+        # In what is found, members come before what has them; here after.
         self.items = sorted(found, key=lambda it: (it[2], -it[5]))
         self.names = {}
         self.of_item = {}

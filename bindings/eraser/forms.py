@@ -1,4 +1,4 @@
-"""Rewrites what is left of a source, after the cut, to Rust: each function is a form, and erasure.py has the names to which forms apply."""
+"""Makes Rust of a source: cuts it, and rewrites what is left. Each function is a form, and erasure.py has the names to which forms apply."""
 import functools
 import os
 import re
@@ -86,7 +86,7 @@ def known(path, text):
 
 
 def stops_at_floats(path, text, tokens):
-    """The lesser of two floats is another one in Rust."""
+    """Stops at floats: `min` of two floats differs in Rust."""
     for token in tokens:
         if (
             token.kind == "number"
@@ -97,7 +97,7 @@ def stops_at_floats(path, text, tokens):
 
 
 def stops_at_ranges(path, text, tokens):
-    """A range without an end goes on after the last number in Rattle, and what a struct takes from another is read only if it has it."""
+    """Stops at a range without an end, which goes on after the last number in Rattle, and at a struct's base (`..base`), which is read there only if a field is taken from it."""
     inside = []
     for at, token in enumerate(tokens):
         if token.text in OPEN:
@@ -127,7 +127,7 @@ NUMBERS = {"bool", "char", *INTEGERS, "isize"}
 
 
 def stops_at_sizes(path, text, tokens):
-    """The compilers lay out differently what does not say how it lies."""
+    """The two compilers may lay out a type differently unless it is `repr(C)`."""
     for at, token in enumerate(tokens):
         if token.text in ("size_of_val", "align_of", "align_of_val", "offset_of", "transmute"):
             raise Stop(f"{path}:{line_of(text, token.start)}: how a value lies: {token.text}")
@@ -148,7 +148,7 @@ STRUCT = re.compile(r"^((?:#\[.*\]\n)*)(?:pub(?:\(\w+\))? )?(?:struct|enum) (\w+
 
 
 def layouts_of(text):
-    """The name of each struct and enum, and whether it says how it lies."""
+    """The name of each struct and enum, and whether it is `repr(C)`."""
     return [(it[2], "#[repr(C)]" in it[1]) for it in STRUCT.finditer(text)]
 
 

@@ -102,7 +102,7 @@ def walk(path, text, tokens, at, end, owner, found):
 
 
 def start_of_docs(text, at):
-    """The beginning of the lines of docs and attributes before a place."""
+    """The beginning of the docs and comments right before a place."""
     line = text.rfind("\n", 0, at) + 1
     while line:
         before = text.rfind("\n", 0, line - 1) + 1

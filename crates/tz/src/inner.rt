@@ -1,5 +1,5 @@
-//! For the crates above and their tests, and no part of the public surface: fields, text, the
-//! search for them, the slots that it fills, columns, and how bytes are read.
+//! For the crates above and their tests, and no part of the public surface: fields, texts, searches
+//! for fields and the slots that they fill, columns, and readers of bytes.
 
 pub use crate::columns::{Unanswered, write_offsets};
 pub use crate::datetime::date_time::fields_of;

@@ -39,7 +39,7 @@ pub struct Fields {
     pub nanoseconds: u32,
 }
 
-/// The reading of the first second of the years of 32 bits.
+/// The reading of the first second of the years of an `i32`.
 const FIRST_READING: i64 = -67_768_100_567_971_200;
 
 /// The reading of the last second of the years of an `i32`.

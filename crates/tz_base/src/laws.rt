@@ -17,7 +17,7 @@ pub fn civil_fields_are_unique()
         → f ≡ g }
 {}
 
-/// An earlier date has a smaller number.
+/// An earlier date has a smaller day number.
 pub fn day_numbers_rise()
     ensures { (y : ℤ) (m d : ℕ) (y' : ℤ) (m' d' : ℕ) → IsDay y m d → IsDay y' m' d'
         → IsEarlierDate y m d y' m' d' → day_number y m d <ℤ day_number y' m' d' }

@@ -58,7 +58,7 @@ fn type_in<'a>(
     }
 }
 
-/// Clears the codes.
+/// Sets all codes to `OK`.
 fn clear(codes: &mut [u32])
     ensures length { length codes.new ≡ length codes.old }
     ensures cleared { AreOkFrom 0 codes.new }

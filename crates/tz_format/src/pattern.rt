@@ -141,14 +141,14 @@ impl<'a> UtcPattern<'a> {
         },
     };
 
-    /// The pattern, of date times of UTC alone.
+    /// Makes a pattern one of date times of UTC alone.
     pub const fn new(pattern: Pattern<'a>) -> Self
         ensures { result.pattern.text.now ≡ pattern.entry.text.now }
     {
         UtcPattern { pattern }
     }
 
-    /// The pattern, of date times of every zone.
+    /// The pattern itself, for date times of every zone.
     pub const fn pattern(&self) -> Pattern<'a>
         ensures { result.text.now ≡ self.now.pattern.text.now }
     {

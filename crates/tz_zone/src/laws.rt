@@ -145,7 +145,7 @@ pub fn type_parts_are_sound(local_time_type: &LocalTimeType)
     let _ = local_time_type.time_zone_designation();
 }
 
-/// So do the parts of each type of a list.
+/// The parts of each type of a list pass the checks of the constructor.
 fn listed_types_are_sound(local_time_types: &[LocalTimeType])
     ensures { (i : ℕ) (t : LocalTimeType) → slice_get local_time_types.now i ≡ Some t
         → IsLocalTimeType t × FitsSigned w32 t.ut_offset }
@@ -155,7 +155,7 @@ fn listed_types_are_sound(local_time_types: &[LocalTimeType])
     }
 }
 
-/// So do the parts of the types of a rule.
+/// The parts of the types of a rule pass the checks of the constructor.
 fn rule_types_are_sound(rule: &TransitionRule)
     ensures { (u : ℤ) (t : LocalTimeType) → IsRuleType rule.now u t
         → IsLocalTimeType t × FitsSigned w32 t.ut_offset }

@@ -153,7 +153,7 @@ impl Designation {
         u64::from_le_bytes([b0, b1, b2, b3, b4, b5, b6, self.len])
     }
 
-    /// The bytes of the name, none if there is no name.
+    /// The bytes of the name, empty if there is no name.
     fn as_bytes(&self) -> &[u8]
         requires { IsKept self.now }
         ensures name { result.now ≡ name_of self.now }
@@ -296,7 +296,7 @@ impl LocalTimeType {
     }
 }
 
-/// The bytes of the type's name, none if it has no name.
+/// The bytes of the type's name, empty if it has no name.
 pub fn designation_bytes(local_time_type: &LocalTimeType) -> &[u8]
     ensures text { result.now ≡ designation_text local_time_type.now }
     ensures ascii { IsAscii result.now }

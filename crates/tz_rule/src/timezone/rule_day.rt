@@ -12,8 +12,8 @@ use std::marker::Model;
 use tz_base::calendar;
 use tz_base::error::TransitionRuleError;
 
-/// The first of the seven days of a month of this length that a week day's w-th one, or for week 5
-/// its last one, may be, counted from 0.
+/// The first of the seven days, counted from 0, of a month of `days` days that may be the `week`-th
+/// with a given week day, or for week 5 the last.
 const fn least_day(days: u8, week: u8) -> u8
     requires days { (28 ≤ days) × (days ≤ 31) }
     requires week { IsRuleWeek week }
@@ -205,8 +205,9 @@ impl MonthWeekDay {
         self.week_day
     }
 
-    /// The first of the seven days that the day may be in leap years or in the others, counted from
-    /// January 1st, and the place of the seven by week days of January 1st (`days_later`).
+    /// The first of the seven days that the day may be, in leap years or in the others, counted
+    /// from January 1st, and a place: with the week day of January 1st added, it is the index in
+    /// `SECONDS_LATER` (`year_table.rt`) of how much later the day is.
     const fn span(&self, leap: bool) -> (u16, usize)
         ensures value { (w : ℕ) → w < 7 → result.0 + days_later (result.1 + w)
             ≡ year_day_of (TheDays.MonthWeekDay self.now) leap w }
@@ -292,7 +293,8 @@ impl RuleDay {
     ghost use Rattle.tz_rule.specs.RuleDays.{IsRuleDay};
 
     /// The first day that the day may be in leap years or in the others, counted from January 1st,
-    /// and the place of those by week days of January 1st (`days_later`).
+    /// and a place: 0 for a day without a week day; with the week day of January 1st added, it is
+    /// the index in `SECONDS_LATER` (`year_table.rt`) of how much later the day is.
     pub(super) const fn span(&self, leap: bool) -> (u16, usize)
         ensures value { (w : ℕ) → w < 7 → result.0 + days_later (result.1 + w)
             ≡ year_day_of self.now leap w }

@@ -173,7 +173,7 @@ fn position_in_block(view: &mut TransitionView<'_>, position: usize, unix_leap_t
     halved(view, position, BLOCK, 1, unix_leap_time)
 }
 
-/// The position at which a leap time before the last transition lies, by halving.
+/// The position at which a leap time before the last transition lies, by binary search.
 ///
 /// After the first look the number of positions to choose from is a power of two.
 #[inline(always)]
@@ -225,7 +225,7 @@ fn guessed(view: &TransitionView<'_>, last: Transition, unix_leap_time: i64) -> 
 /// The position of a leap time before the last of 128 to 256 transitions, all of which lie in the
 /// first or in the last 128.
 ///
-/// Their number says how to halve, which a search in longer tables has to find.
+/// Each block of 128 is searched in seven steps without a loop.
 #[inline(always)]
 fn in_two_blocks(view: &TransitionView<'_>, unix_leap_time: i64) -> Option<usize>
     requires guess { IsTrue (may_guess_of view.now) }
@@ -249,7 +249,7 @@ fn in_two_blocks(view: &TransitionView<'_>, unix_leap_time: i64) -> Option<usize
 }
 
 /// The position at which a leap time before the last transition lies: by a guess, or else by
-/// halving.
+/// binary search.
 ///
 /// A guess may read in vain, so there is none where the looks are to be few. It decides nothing by
 /// itself: it is taken only if the transitions around it show that it is right.

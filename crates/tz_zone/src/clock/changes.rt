@@ -1,9 +1,9 @@
 //! The first change of a zone's clock after an instant, and the last one before it.
 //!
 //! Up to the last transition a walk goes from position to position. It reads the types of
-//! transitions, and looks for the instant at which one takes effect only if its type is another
-//! than the one before. From the last one on the rule has the changes. The walk back does the same
-//! from the rule on.
+//! transitions, and looks for the instant at which one takes effect only if its type differs from
+//! the one before. From the last one on the rule has the changes. The walk back does the same from
+//! the rule on.
 
 ghost use Rattle.std.specs.Prelude.{◌≡◌, ℕ, ◌<◌, ◌≤◌, [], length, slice_get, Some, IfSome};
 ghost use Rattle.std.specs.Prelude.{MatchOption, ℤ, pos, negsuc, ◌+ℤ◌, ◌-ℤ◌, ◌≤ℤ◌, ◌<ℤ◌};
@@ -97,7 +97,7 @@ fn first_position(zone: &ZoneData<'_>, unix_time: i64) -> Option<(i64, usize)>
 
 /// The change at the next transition after an instant that lies at a position, and the position
 /// after it, if there are no leap seconds, that transition is to another type, and it is not the
-/// last one. Mostly it is so, and then nothing is walked.
+/// last one. That is the usual case, and needs no walk.
 fn change_at_next<'a>(
     zone: &ZoneData<'a>,
     unix_time: i64,
@@ -297,7 +297,7 @@ fn run_start(zone: &ZoneData<'_>, position: usize) -> (usize, i64)
 
 /// The change at the last transition before an instant, and the position before it, if the instant
 /// a second earlier lies at a position, there are no leap seconds, that transition is from another
-/// type, and it is not the last one of all. Mostly it is so, and then nothing is walked.
+/// type, and it is not the last one of all. That is the usual case, and needs no walk.
 fn change_at_last<'a>(
     zone: &ZoneData<'a>,
     unix_time: i64,

@@ -20,7 +20,7 @@ use tz_base::error::TzError;
 /// past all years of 32 bits, and far below 2^63 less any correction.
 const ALWAYS_DEFINED_UP_TO: i64 = 80_000_000_000_000_000;
 
-/// A leap time less a correction, as a wide number.
+/// A leap time less a correction, in 128 bits.
 pub(crate) fn without_correction(time: i64, correction: i32) -> i128
     ensures { result ≡ time -ℤ correction }
 {
@@ -65,7 +65,7 @@ pub(crate) fn first_begun(leap_seconds: &[LeapSecond], unix_time: i64) -> Option
     }
 }
 
-/// How many leap seconds have a time that is not above a leap time, by halving.
+/// How many leap seconds are at or before a leap time, by binary search.
 pub(crate) const fn leap_seconds_up_to(leap_seconds: &[LeapSecond], unix_leap_time: i64) -> usize
     requires { AreLeapSeconds leap_seconds.now }
     ensures within { result ≤ length leap_seconds.now }
@@ -98,7 +98,7 @@ fn is_reached(leap_seconds: &[LeapSecond], index: usize, unix_time: i64) -> bool
     i128::from(time) <= i128::from(unix_time) + i128::from(correction)
 }
 
-/// The first index, from `from` on, at which no leap second is reached.
+/// The first index, from `from` on, whose leap second is not reached, or the length of the list.
 fn first_not_reached(leap_seconds: &[LeapSecond], from: usize, unix_time: i64) -> usize
     requires { from ≤ length leap_seconds.now }
     ensures within { result ≤ length leap_seconds.now }

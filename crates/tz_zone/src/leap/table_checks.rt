@@ -160,7 +160,7 @@ pub(crate) fn truncated_start(leap_seconds: &[LeapSecond]) -> Option<&LeapSecond
     Some(first)
 }
 
-/// Whether a truncated start is reached at the leap time.
+/// Whether the table has begun at the leap time: it has no truncated start, or that is reached.
 pub(crate) fn has_begun_at(leap_seconds: &[LeapSecond], unix_leap_time: i64) -> bool
     ensures { MatchBool result (HasBegunAt leap_seconds.now unix_leap_time)
         (¬ HasBegunAt leap_seconds.now unix_leap_time) }
@@ -171,7 +171,8 @@ pub(crate) fn has_begun_at(leap_seconds: &[LeapSecond], unix_leap_time: i64) -> 
     }
 }
 
-/// The leap time at which the table expires: that of a last record with the correction before it.
+/// The leap time at which the table expires: that of a last record that repeats the correction
+/// before it.
 pub(crate) fn expiry(leap_seconds: &[LeapSecond]) -> Option<i64>
     ensures some { IfSome result (ExpiresAt leap_seconds.now) }
     ensures none { IfNone result ((time : ℤ) → ¬ ExpiresAt leap_seconds.now time) }
@@ -195,8 +196,8 @@ pub(crate) fn is_plain_table(leap_seconds: &[LeapSecond]) -> bool
     truncated_start(leap_seconds).is_none() && expiry(leap_seconds).is_none()
 }
 
-/// The correction before the first index of the list: 0, but the first one's own at a truncated
-/// start.
+/// The correction before the first index of the list: 0, or at a truncated start that of the first
+/// record.
 pub(crate) fn correction_at_start(leap_seconds: &[LeapSecond]) -> i32
     ensures { result ≡ correction_of_start (slice_get leap_seconds.now 0) }
 {

@@ -75,8 +75,8 @@ fn after_digit(text: &[u8]) -> Option<(u8, &[u8])>
     }
 }
 
-/// The number at the beginning, where it has one digit or two, as most numbers of a string have,
-/// and the rest of the bytes.
+/// The number at the beginning, if it has one digit or two, as most numbers of a string have, and
+/// the rest of the bytes.
 #[inline(always)]
 fn read_two_digits(text: &[u8]) -> Option<(u8, &[u8])>
     ensures { IfSome result (λ p. IsNumber text.now p.0 p.1.now) }
@@ -91,7 +91,7 @@ fn read_two_digits(text: &[u8]) -> Option<(u8, &[u8])>
     }
 }
 
-/// The longest run of digits at the beginning, and the rest of the bytes.
+/// The longest run of digits at the beginning, as a text, and the rest of the bytes.
 fn read_digits(text: &[u8]) -> (&str, &[u8])
     ensures { IsRun is_ascii_digit text.now result.0.now result.1.now }
 {
@@ -201,7 +201,7 @@ const EXTENDED_HOURS: u32 = 167;
 /// The greatest minute, and the greatest second.
 const LAST_OF_SIXTY: u32 = 59;
 
-/// A time as it is written: whether after a minus, and its numbers.
+/// A time as it is written: whether it has a minus sign, and its numbers.
 #[derive(Clone, Copy)]
 struct WrittenTime {
     minus: bool,
@@ -263,7 +263,7 @@ fn read_part(text: &[u8]) -> Result<(u32, &[u8]), TzStringError>
     }
 }
 
-/// Hours, minutes and seconds after a sign that is read, and the rest of the bytes.
+/// Hours, minutes and seconds after a sign that has been read, and the rest of the bytes.
 #[inline(always)]
 fn read_hms(text: &[u8], minus: bool) -> Result<(WrittenTime, &[u8]), TzStringError>
     ensures { MatchResult result
@@ -300,7 +300,7 @@ fn read_sign(text: &[u8]) -> (bool, &[u8])
 /// How far daylight saving time is ahead of standard time, in seconds, if a string does not say.
 pub const DEFAULT_SAVING: i32 = 3600;
 
-/// The numbers of an offset are in range.
+/// Checks that the numbers of an offset are in range.
 fn check_offset(time: &WrittenTime) -> Result<(), TzStringError>
     ensures { MatchResult result (λ _. IsTimeUpTo offset_hours time.now)
         (IsTimeAbove offset_hours offset_faults time.now) }
@@ -445,7 +445,7 @@ fn greatest_hour(extended: bool) -> u32
     if extended { EXTENDED_HOURS } else { DAY_HOURS }
 }
 
-/// The numbers of a day time are in range.
+/// Checks that the numbers of a day time are in range.
 fn check_day_time(time: &WrittenTime, extended: bool) -> Result<(), TzStringError>
     ensures { MatchResult result (λ _. IsTimeUpTo (day_time_hours extended) time.now)
         (IsTimeAbove (day_time_hours extended) day_time_faults time.now) }

@@ -1,5 +1,5 @@
-//! Time zones that own their parts. Files are read in `parse/tz_file.rt`, zones are opened by
-//! settings and names in `settings.rt`, and changes are in `changes.rt`.
+//! Time zones that own their parts. `TimeZone::from_tz_data` is in `parse/tz_file.rt`, zones are
+//! opened by settings and names in `settings.rt`, and changes are in `changes.rt`.
 
 ghost use Rattle.tz_zone.specs.Offsets.{AreEndOffsets};
 ghost use Rattle.tz_zone.specs.Table.{zone_with};
@@ -139,7 +139,7 @@ impl<A: Allocator + Copy> TimeZone<A> {
         )
     }
 
-    /// The zone with these parts, of which the transitions may be known to be sound.
+    /// The zone with these parts. If `are_sound`, the transitions are not checked again.
     pub(crate) fn with_transitions(
         are_sound: bool,
         transitions: Vec<Transition, A>,

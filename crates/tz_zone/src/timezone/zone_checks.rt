@@ -36,7 +36,7 @@ const fn rises_at(transitions: &[Transition], index: usize) -> bool
     transitions[index].unix_leap_time() < transitions[index + 1].unix_leap_time()
 }
 
-/// Each transition names one of the types, whose number is given, and comes before the next one.
+/// Checks that each transition names one of so many types, and comes before the next one.
 fn check_transitions(transitions: &[Transition], types: usize) -> Result<(), TimeZoneError>
     ensures ok { OnOk result (AreSound transitions.now types) }
     ensures err { IfErr result (IsFirstTransitionFault transitions.now types) }
@@ -52,8 +52,7 @@ fn check_transitions(transitions: &[Transition], types: usize) -> Result<(), Tim
     Ok(())
 }
 
-/// Whether transitions can be those of a zone with so many types, without a look at any if they are
-/// known to be sound.
+/// Checks transitions against the number of types, unless they are known to be sound.
 fn check_unless_sound(
     are_sound: bool,
     transitions: &[Transition],
@@ -69,7 +68,7 @@ fn check_unless_sound(
     check_transitions(transitions, types)
 }
 
-/// The type that a rule has where a leap time takes effect.
+/// The type that a rule has at the instant at which a leap time takes effect.
 fn rule_type_at<'a>(
     rule: RuleRef<'a>,
     leap_seconds: &[LeapSecond],
@@ -88,8 +87,8 @@ fn rule_type_at<'a>(
     }
 }
 
-/// The extra rule has a type at the last transition, which is that transition's, unless the
-/// transition is before a truncated start.
+/// Checks that the extra rule has the last transition's type there, unless the transition is before
+/// a truncated start.
 fn check_extra_rule(
     transitions: &[Transition],
     local_time_types: &[LocalTimeType],
@@ -125,8 +124,8 @@ fn check_extra_rule(
     Ok(())
 }
 
-/// Checks the parts of a zone, in the order of their errors. The transitions may be known to be
-/// sound.
+/// Checks the parts of a zone, in the order of their errors. If `are_sound`, the transitions are
+/// not checked again.
 pub(crate) fn check_parts(
     are_sound: bool,
     transitions: &[Transition],
@@ -183,7 +182,7 @@ fn offsets_of_types(local_time_types: &[LocalTimeType]) -> (i32, i32)
     (least, greatest)
 }
 
-/// Two offsets, moved apart until those of the rule lie between them, and no further.
+/// The range of offsets from `least` to `greatest`, widened just enough to hold those of the rule.
 fn with_rule(rule: RuleRef<'_>, least: i32, greatest: i32) -> (i32, i32)
     ensures least { result.0 ≤ℤ least }
     ensures greatest { greatest ≤ℤ result.1 }
