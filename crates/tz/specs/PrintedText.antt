@@ -4,7 +4,9 @@ use Rattle.std.specs.Prelude.{List, [], ◌∷◌, ◌++◌, ℕ, unwrap_or}
 use Rattle.tz_rule.specs.LocalTimeType.{LocalTimeType}
 use Rattle.tz.specs.DateTimes.{DateTime}
 pub use Rattle.tz_base.specs.PrintedText.{last_digits, seconds_text}
-unfoldable pub use Rattle.tz_base.specs.PrintedText.{two_digits, nine_digits, two_digits_or_more, date_text, time_text, duration_text, offset_text, middle_text, printed_text}
+unfoldable pub use Rattle.tz_base.specs.PrintedText.{two_digits, nine_digits, two_digits_or_more}
+unfoldable pub use Rattle.tz_base.specs.PrintedText.{date_text, time_text, duration_text}
+unfoldable pub use Rattle.tz_base.specs.PrintedText.{offset_text, middle_text, printed_text}
 
 -- the name of a type, or `-`
 abbrev pub type_name_text : LocalTimeType → List ℕ
