@@ -1,5 +1,5 @@
 //! The seven fields of a date time: their check, their reading, and the fields of a reading;
-//! instants as one total of nanoseconds, and as seconds and nanoseconds.
+//! instants as one total of nanoseconds, and as seconds, rounded down, and nanoseconds.
 //!
 //! A reading counts the seconds from 1970-01-01 00:00:00 to the fields of a date time, whatever
 //! clock shows them.

@@ -1,4 +1,5 @@
-//! Whole columns in one call.
+//! Whole columns in one call: each index has a code of its own, an error at one does not stop the
+//! others, and all buffers have one length.
 
 ghost use Rattle.std.specs.Prelude.{◌≡◌, ◌≢◌, ◌<◌, ◌≤ℤ◌, ◌+ℤ◌, pos, length, IfOk, IfErr};
 ghost use Rattle.tz_base.specs.Fields.{IsCivil, IsReading};

@@ -1,5 +1,5 @@
-//! What a search of date times finds: an entry, and lists of entries in memory of their own or in a
-//! buffer of the caller.
+//! What a search of date times finds: an entry; lists of entries, in memory of their own or in a
+//! buffer of the caller; and which of these is the unique, the earliest or the latest one.
 
 use super::DateTime;
 use super::entry_takers::DateTimeList;
