@@ -308,7 +308,7 @@ fn change_at_last<'a>(
         (λ found. IsPreceding (zone_of_data zone.now) unix_time (change_of found.0)) }
 {
     let transitions = zone.transitions;
-    if !zone.leap_seconds.is_empty() || position == 0 || transitions.len() <= position {
+    if transitions.len() <= position || position == 0 || !zone.leap_seconds.is_empty() {
         return None;
     }
     let last = transitions[position - 1];

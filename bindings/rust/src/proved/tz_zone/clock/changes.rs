@@ -287,7 +287,7 @@ const fn change_at_last<'a>(
     position: usize,
 ) -> Option<(Change<'a>, usize)> {
     let transitions = zone.transitions;
-    if !zone.leap_seconds.is_empty() || position == 0 || transitions.len() <= position {
+    if transitions.len() <= position || position == 0 || !zone.leap_seconds.is_empty() {
         return None;
     }
     let last = transitions[position - 1];
