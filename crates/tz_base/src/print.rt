@@ -1,6 +1,6 @@
 //! How dates, times and offsets are printed.
 
-ghost use Rattle.std.specs.Prelude.{◌≡◌, ◌+◌, ◌<◌, ◌≤◌, ◌++◌, length, IsAscii};
+ghost use Rattle.std.specs.Prelude.{◌≡◌, ◌+◌, ◌<◌, ◌≤◌, ◌++◌, ◌∷◌, pos, unsigned_abs, length, IsAscii};
 ghost use Rattle.std.specs.Fmt.{signed_decimal};
 ghost use Rattle.tz_base.specs.Fields.{IsValid};
 ghost use Rattle.tz_base.specs.PrintedText.{two_digits_or_more, middle_text, seconds_text, duration_text, offset_text, printed_text};
@@ -22,6 +22,15 @@ pub fn middle_of(fields: &Fields) -> [u8; 16]
         b'-', month[0], month[1], b'-', day[0], day[1], b'T', hour[0], hour[1], b':', minute[0],
         minute[1], b':', second[0], second[1], b'.',
     ]
+}
+
+/// The sign of an offset other than zero.
+fn sign_of(ut_offset: i32) -> u8
+    requires { ¬ (ut_offset ≡ pos 0) }
+    ensures text { result ∷ duration_text (unsigned_abs ut_offset) ≡ offset_text ut_offset }
+    ensures ascii { result < 128 }
+{
+    if ut_offset < 0 { b'-' } else { b'+' }
 }
 
 impl TextBuffer {
@@ -92,17 +101,14 @@ impl TextBuffer {
     {
         if ut_offset == 0 {
             self.push(b'Z');
-        } else if ut_offset < 0 {
-            self.push(b'-');
-            self.push_duration(ut_offset.unsigned_abs());
         } else {
-            self.push(b'+');
+            self.push(sign_of(ut_offset));
             self.push_duration(ut_offset.unsigned_abs());
         }
     }
 
-    /// Appends the printed date time of the fields and an offset in seconds.
-    pub fn push_date_time(&mut self, fields: &Fields, ut_offset: i32)
+    /// Appends the printed date time of the fields and an offset in seconds, part by part.
+    fn push_parts(&mut self, fields: &Fields, ut_offset: i32)
         requires valid { IsValid fields.now }
         requires room { length self.old + 53 ≤ 128 }
         ensures text { self.new ≡ self.old ++ printed_text fields.now ut_offset }
@@ -112,5 +118,34 @@ impl TextBuffer {
         self.push_ascii(&middle_of(fields));
         self.push_nine_digits(fields.nanoseconds);
         self.push_offset(ut_offset);
+    }
+
+    /// Appends the printed date time of the fields, whose year need not have four digits, and an
+    /// offset in seconds.
+    #[cold]
+    fn push_parts_of_any_year(&mut self, fields: &Fields, ut_offset: i32)
+        requires valid { IsValid fields.now }
+        requires room { length self.old + 53 ≤ 128 }
+        ensures text { self.new ≡ self.old ++ printed_text fields.now ut_offset }
+        ensures len { length self.new ≤ length self.old + 53 }
+    {
+        self.push_parts(fields, ut_offset);
+    }
+
+    /// Appends the printed date time of the fields and an offset in seconds.
+    ///
+    /// Years of four digits have code of their own: in it the compiler knows the position of each
+    /// part, and checks none.
+    pub fn push_date_time(&mut self, fields: &Fields, ut_offset: i32)
+        requires valid { IsValid fields.now }
+        requires room { length self.old + 53 ≤ 128 }
+        ensures text { self.new ≡ self.old ++ printed_text fields.now ut_offset }
+        ensures len { length self.new ≤ length self.old + 53 }
+    {
+        if fields.year >= 1000 && fields.year < 10_000 {
+            self.push_parts(fields, ut_offset);
+        } else {
+            self.push_parts_of_any_year(fields, ut_offset);
+        }
     }
 }

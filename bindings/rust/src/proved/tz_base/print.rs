@@ -18,6 +18,12 @@ pub fn middle_of(fields: &Fields) -> [u8; 16] {
     ]
 }
 
+/// The sign of an offset other than zero.
+#[inline]
+fn sign_of(ut_offset: i32) -> u8 {
+    if ut_offset < 0 { b'-' } else { b'+' }
+}
+
 impl TextBuffer {
     /// Appends a year.
     #[inline]
@@ -69,21 +75,38 @@ impl TextBuffer {
     pub fn push_offset(&mut self, ut_offset: i32) {
         if ut_offset == 0 {
             self.push(b'Z');
-        } else if ut_offset < 0 {
-            self.push(b'-');
-            self.push_duration(ut_offset.unsigned_abs());
         } else {
-            self.push(b'+');
+            self.push(sign_of(ut_offset));
             self.push_duration(ut_offset.unsigned_abs());
         }
     }
 
-    /// Appends the printed date time of the fields and an offset in seconds.
+    /// Appends the printed date time of the fields and an offset in seconds, part by part.
     #[inline]
-    pub fn push_date_time(&mut self, fields: &Fields, ut_offset: i32) {
+    fn push_parts(&mut self, fields: &Fields, ut_offset: i32) {
         self.push_year(fields.year);
         self.push_ascii(&middle_of(fields));
         self.push_nine_digits(fields.nanoseconds);
         self.push_offset(ut_offset);
+    }
+
+    /// Appends the printed date time of the fields, whose year need not have four digits, and an
+    /// offset in seconds.
+    #[cold]
+    fn push_parts_of_any_year(&mut self, fields: &Fields, ut_offset: i32) {
+        self.push_parts(fields, ut_offset);
+    }
+
+    /// Appends the printed date time of the fields and an offset in seconds.
+    ///
+    /// Years of four digits have code of their own: in it the compiler knows the position of each
+    /// part, and checks none.
+    #[inline]
+    pub fn push_date_time(&mut self, fields: &Fields, ut_offset: i32) {
+        if fields.year >= 1000 && fields.year < 10_000 {
+            self.push_parts(fields, ut_offset);
+        } else {
+            self.push_parts_of_any_year(fields, ut_offset);
+        }
     }
 }

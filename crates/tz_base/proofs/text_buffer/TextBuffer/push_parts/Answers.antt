@@ -3,7 +3,7 @@ use Rattle.std.proofs.lemmas.Int.{to_z-of_z}
 use Rattle.std.proofs.Common.{rules, append_assoc}
 use mir.Syntax.{w32}
 use Rattle.tz_base.proofs.PrintedDigits.{printed_parts}
-use Rattle.tz_base.proofs.text_buffer.TextBuffer.push_date_time.Goals as goal
+use Rattle.tz_base.proofs.text_buffer.TextBuffer.push_parts.Goals as goal
 
 pub returns-clause-text : goal.returns-clause-text
 returns-clause-text c =
