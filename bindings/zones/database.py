@@ -235,6 +235,15 @@ def read_version(folder):
     raise Refused(f'{folder} has neither +VERSION nor tzdata.zi with a version')
 
 
+def read_links(folder):
+    """The names that the lines `L` of tzdata.zi give to zones of other names, which are canonical;
+    empty if the folder has no such file."""
+    if not (folder / 'tzdata.zi').is_file():
+        return set()
+    lines = (folder / 'tzdata.zi').read_text().splitlines()
+    return {line.split()[2] for line in lines if line.startswith('L ')}
+
+
 def read_zones(folder):
     """The zones of a folder by name."""
     zones = {}

@@ -76,15 +76,8 @@ static ASMARA_TABLE: [Transition; 3] = table([
     (-3155682932, 1), (-2524530932, 2), (-1062210920, 3),
 ]);
 
-/// `Africa/Asmera`: 5 transitions, then `EAT-3`.
-pub const ASMERA: TimeZoneRef<'static> = zone(&ASMERA_TABLE, &ASMERA_TYPES, &rules::EAT_MINUS_3);
-static ASMERA_TYPES: [LocalTimeType; 5] = [
-    local(8836, false, "LMT"), local(9000, false, "+0230"), local(10800, false, "EAT"),
-    local(9900, false, "+0245"), local(10800, false, "EAT"),
-];
-static ASMERA_TABLE: [Transition; 5] = table([
-    (-1946168836, 1), (-1309746600, 2), (-1261969200, 1), (-1041388200, 3), (-865305900, 2),
-]);
+/// `Africa/Asmera`, the same as [`Africa/Nairobi`](crate::africa::NAIROBI).
+pub const ASMERA: TimeZoneRef<'static> = crate::africa::NAIROBI;
 
 /// `Africa/Bamako`: 3 transitions, then `GMT0`.
 pub const BAMAKO: TimeZoneRef<'static> = zone(&BAMAKO_TABLE, &BAMAKO_TYPES, &rules::GMT0);
@@ -592,8 +585,15 @@ static MONROVIA_TABLE: [Transition; 3] = table([
     (-2776979812, 1), (-1604359012, 2), (63593070, 3),
 ]);
 
-/// `Africa/Nairobi`, the same as [`Africa/Asmera`](crate::africa::ASMERA).
-pub const NAIROBI: TimeZoneRef<'static> = crate::africa::ASMERA;
+/// `Africa/Nairobi`: 5 transitions, then `EAT-3`.
+pub const NAIROBI: TimeZoneRef<'static> = zone(&NAIROBI_TABLE, &NAIROBI_TYPES, &rules::EAT_MINUS_3);
+static NAIROBI_TYPES: [LocalTimeType; 5] = [
+    local(8836, false, "LMT"), local(9000, false, "+0230"), local(10800, false, "EAT"),
+    local(9900, false, "+0245"), local(10800, false, "EAT"),
+];
+static NAIROBI_TABLE: [Transition; 5] = table([
+    (-1946168836, 1), (-1309746600, 2), (-1261969200, 1), (-1041388200, 3), (-865305900, 2),
+]);
 
 /// `Africa/Ndjamena`: 3 transitions, then `WAT-1`.
 pub const NDJAMENA: TimeZoneRef<'static> = zone(

@@ -526,16 +526,8 @@ static CIUDAD_JUAREZ_TABLE: [Transition; 61] = table([
     (1615712400, 3), (1636272000, 4), (1647162000, 3), (1667116800, 2), (1669788000, 4),
 ]);
 
-/// `America/Coral_Harbour`: 2 transitions, then `EST5`.
-pub const CORAL_HARBOUR: TimeZoneRef<'static> = zone(
-    &CORAL_HARBOUR_TABLE, &CORAL_HARBOUR_TYPES, &rules::EST5,
-);
-static CORAL_HARBOUR_TYPES: [LocalTimeType; 3] = [
-    local(-19088, false, "LMT"), local(-19176, false, "CMT"), local(-18000, false, "EST"),
-];
-static CORAL_HARBOUR_TABLE: [Transition; 2] = table([
-    (-2524502512, 1), (-1946918424, 2),
-]);
+/// `America/Coral_Harbour`, the same as [`America/Panama`](crate::america::PANAMA).
+pub const CORAL_HARBOUR: TimeZoneRef<'static> = crate::america::PANAMA;
 
 /// `America/Cordoba`, the same as
 /// [`America/Argentina/Cordoba`](crate::america::argentina::CORDOBA).
@@ -823,36 +815,8 @@ static EL_SALVADOR_TABLE: [Transition; 5] = table([
     (-1546279392, 2), (547020000, 1), (559717200, 2), (578469600, 1), (591166800, 2),
 ]);
 
-/// `America/Ensenada`: 100 transitions, then `PST8PDT,M3.2.0,M11.1.0`.
-pub const ENSENADA: TimeZoneRef<'static> = zone(
-    &ENSENADA_TABLE, &ENSENADA_TYPES, &rules::PST8PDT_M3_2_0_M11_1_0,
-);
-static ENSENADA_TYPES: [LocalTimeType; 8] = [
-    local(-28084, false, "LMT"), local(-25200, false, "MST"), local(-28800, false, "PST"),
-    local(-25200, false, "MST"), local(-25200, true, "PDT"), local(-25200, true, "PWT"),
-    local(-25200, true, "PPT"), local(-28800, false, "PST"),
-];
-static ENSENADA_TABLE: [Transition; 100] = table([
-    (-1514739600, 1), (-1451667600, 2), (-1343145600, 3), (-1234803600, 2), (-1222963200, 4),
-    (-1207242000, 2), (-873820800, 5), (-769395600, 6), (-761418000, 2), (-686073600, 4),
-    (-661539600, 2), (-620755200, 4), (-608144400, 2), (-589384800, 4), (-576082800, 2),
-    (-557935200, 4), (-544633200, 2), (-495039600, 4), (-481734000, 2), (-463590000, 4),
-    (-450284400, 2), (-431535600, 4), (-418230000, 2), (-400086000, 4), (-386780400, 2),
-    (-368636400, 4), (-355330800, 2), (-337186800, 4), (-323881200, 2), (-305737200, 4),
-    (-292431600, 2), (199274400, 4), (215600400, 2), (230724000, 4), (247050000, 2), (262778400, 4),
-    (278499600, 2), (294228000, 4), (309949200, 2), (325677600, 4), (341398800, 2), (357127200, 4),
-    (372848400, 2), (388576800, 4), (404902800, 2), (420026400, 4), (436352400, 2), (452080800, 4),
-    (467802000, 2), (483530400, 4), (499251600, 2), (514980000, 4), (530701200, 2), (544615200, 4),
-    (562150800, 2), (576064800, 4), (594205200, 2), (607514400, 4), (625654800, 2), (638964000, 4),
-    (657104400, 2), (671018400, 4), (688554000, 2), (702468000, 4), (720003600, 2), (733917600, 4),
-    (752058000, 2), (765367200, 4), (783507600, 2), (796816800, 4), (814957200, 2), (828871200, 4),
-    (846406800, 2), (860320800, 4), (877856400, 2), (891770400, 4), (909306000, 2), (923220000, 4),
-    (941360400, 2), (954669600, 4), (972810000, 2), (986119200, 4), (1004259600, 2),
-    (1018173600, 4), (1035709200, 2), (1049623200, 4), (1067158800, 2), (1081072800, 4),
-    (1099213200, 2), (1112522400, 4), (1130662800, 2), (1143972000, 4), (1162112400, 2),
-    (1175421600, 4), (1193562000, 2), (1207476000, 4), (1225011600, 2), (1238925600, 4),
-    (1256461200, 2), (1268560800, 4),
-]);
+/// `America/Ensenada`, the same as [`America/Tijuana`](crate::america::TIJUANA).
+pub const ENSENADA: TimeZoneRef<'static> = crate::america::TIJUANA;
 
 /// `America/Fort_Nelson`: 143 transitions, then `MST7`.
 pub const FORT_NELSON: TimeZoneRef<'static> = zone(
@@ -892,25 +856,9 @@ static FORT_NELSON_TABLE: [Transition; 143] = table([
     (1414918800, 2), (1425808800, 5),
 ]);
 
-/// `America/Fort_Wayne`: 38 transitions, then `EST5EDT,M3.2.0,M11.1.0`.
-pub const FORT_WAYNE: TimeZoneRef<'static> = zone(
-    &FORT_WAYNE_TABLE, &FORT_WAYNE_TYPES, &rules::EST5EDT_M3_2_0_M11_1_0,
-);
-static FORT_WAYNE_TYPES: [LocalTimeType; 8] = [
-    local(-20678, false, "LMT"), local(-18000, true, "CDT"), local(-21600, false, "CST"),
-    local(-21600, false, "CST"), local(-18000, true, "CWT"), local(-18000, true, "CPT"),
-    local(-18000, false, "EST"), local(-14400, true, "EDT"),
-];
-static FORT_WAYNE_TABLE: [Transition; 38] = table([
-    (-2717647200, 3), (-1633276800, 1), (-1615136400, 2), (-1601827200, 1), (-1583686800, 2),
-    (-900259200, 1), (-891795600, 2), (-880214400, 4), (-769395600, 5), (-765392400, 2),
-    (-747244800, 1), (-733942800, 2), (-715795200, 1), (-702493200, 2), (-684345600, 1),
-    (-671043600, 2), (-652896000, 1), (-639594000, 2), (-620841600, 1), (-608144400, 2),
-    (-589392000, 1), (-576090000, 2), (-557942400, 1), (-544640400, 2), (-526492800, 1),
-    (-513190800, 2), (-495043200, 1), (-481741200, 2), (-463593600, 6), (-386787600, 2),
-    (-368640000, 6), (-21488400, 7), (-5767200, 6), (9961200, 7), (25682400, 6), (1143961200, 7),
-    (1162101600, 6), (1173596400, 7),
-]);
+/// `America/Fort_Wayne`, the same as
+/// [`America/Indiana/Indianapolis`](crate::america::indiana::INDIANAPOLIS).
+pub const FORT_WAYNE: TimeZoneRef<'static> = crate::america::indiana::INDIANAPOLIS;
 
 /// `America/Fortaleza`: 39 transitions, then `<-03>3`.
 pub const FORTALEZA: TimeZoneRef<'static> = zone(
@@ -955,34 +903,8 @@ static GLACE_BAY_TABLE: [Transition; 79] = table([
     (1130648400, 2), (1143957600, 1), (1162098000, 2), (1173592800, 1),
 ]);
 
-/// `America/Godthab`: 89 transitions, then `<-02>2<-01>,M3.5.0/-1,M10.5.0/0`.
-pub const GODTHAB: TimeZoneRef<'static> = zone(
-    &GODTHAB_TABLE, &GODTHAB_TYPES, &rules::MINUS_02_2_MINUS_01_M3_5_0_AT_MINUS_1_M10_5_0_AT_0,
-);
-static GODTHAB_TYPES: [LocalTimeType; 7] = [
-    local(-12416, false, "LMT"), local(-10800, false, "-03"), local(-10800, false, "-03"),
-    local(-7200, true, "-02"), local(-7200, true, "-02"), local(-7200, false, "-02"),
-    local(-3600, true, "-01"),
-];
-static GODTHAB_TABLE: [Transition; 89] = table([
-    (-1686083584, 1), (323845200, 4), (338950800, 2), (354675600, 3), (370400400, 2),
-    (386125200, 3), (401850000, 2), (417574800, 3), (433299600, 2), (449024400, 3), (465354000, 2),
-    (481078800, 3), (496803600, 2), (512528400, 3), (528253200, 2), (543978000, 3), (559702800, 2),
-    (575427600, 3), (591152400, 2), (606877200, 3), (622602000, 2), (638326800, 3), (654656400, 2),
-    (670381200, 3), (686106000, 2), (701830800, 3), (717555600, 2), (733280400, 3), (749005200, 2),
-    (764730000, 3), (780454800, 2), (796179600, 3), (811904400, 2), (828234000, 3), (846378000, 2),
-    (859683600, 3), (877827600, 2), (891133200, 3), (909277200, 2), (922582800, 3), (941331600, 2),
-    (954032400, 3), (972781200, 2), (985482000, 3), (1004230800, 2), (1017536400, 3),
-    (1035680400, 2), (1048986000, 3), (1067130000, 2), (1080435600, 3), (1099184400, 2),
-    (1111885200, 3), (1130634000, 2), (1143334800, 3), (1162083600, 2), (1174784400, 3),
-    (1193533200, 2), (1206838800, 3), (1224982800, 2), (1238288400, 3), (1256432400, 2),
-    (1269738000, 3), (1288486800, 2), (1301187600, 3), (1319936400, 2), (1332637200, 3),
-    (1351386000, 2), (1364691600, 3), (1382835600, 2), (1396141200, 3), (1414285200, 2),
-    (1427590800, 3), (1445734800, 2), (1459040400, 3), (1477789200, 2), (1490490000, 3),
-    (1509238800, 2), (1521939600, 3), (1540688400, 2), (1553994000, 3), (1572138000, 2),
-    (1585443600, 3), (1603587600, 2), (1616893200, 3), (1635642000, 2), (1648342800, 3),
-    (1667091600, 2), (1679792400, 5), (1711846800, 6),
-]);
+/// `America/Godthab`, the same as [`America/Nuuk`](crate::america::NUUK).
+pub const GODTHAB: TimeZoneRef<'static> = crate::america::NUUK;
 
 /// `America/Goose_Bay`: 152 transitions, then `AST4ADT,M3.2.0,M11.1.0`.
 pub const GOOSE_BAY: TimeZoneRef<'static> = zone(
@@ -1190,8 +1112,9 @@ static HERMOSILLO_TABLE: [Transition; 13] = table([
     (877852800, 4), (891766800, 3), (909302400, 4),
 ]);
 
-/// `America/Indianapolis`, the same as [`America/Fort_Wayne`](crate::america::FORT_WAYNE).
-pub const INDIANAPOLIS: TimeZoneRef<'static> = crate::america::FORT_WAYNE;
+/// `America/Indianapolis`, the same as
+/// [`America/Indiana/Indianapolis`](crate::america::indiana::INDIANAPOLIS).
+pub const INDIANAPOLIS: TimeZoneRef<'static> = crate::america::indiana::INDIANAPOLIS;
 
 /// `America/Inuvik`: 72 transitions, then `MST7MDT,M3.2.0,M11.1.0`.
 pub const INUVIK: TimeZoneRef<'static> = zone(
@@ -1289,17 +1212,8 @@ static JUNEAU_TABLE: [Transition; 83] = table([
 /// `America/Knox_IN`, the same as [`America/Indiana/Knox`](crate::america::indiana::KNOX).
 pub const KNOX_IN: TimeZoneRef<'static> = crate::america::indiana::KNOX;
 
-/// `America/Kralendijk`: 4 transitions, then `AST4`.
-pub const KRALENDIJK: TimeZoneRef<'static> = zone(
-    &KRALENDIJK_TABLE, &KRALENDIJK_TYPES, &rules::AST4,
-);
-static KRALENDIJK_TYPES: [LocalTimeType; 4] = [
-    local(-15865, false, "LMT"), local(-14400, false, "AST"), local(-10800, true, "APT"),
-    local(-10800, true, "AWT"),
-];
-static KRALENDIJK_TABLE: [Transition; 4] = table([
-    (-2233035335, 1), (-873057600, 3), (-769395600, 2), (-765399600, 1),
-]);
+/// `America/Kralendijk`, the same as [`America/Puerto_Rico`](crate::america::PUERTO_RICO).
+pub const KRALENDIJK: TimeZoneRef<'static> = crate::america::PUERTO_RICO;
 
 /// `America/La_Paz`: 3 transitions, then `<-04>4`.
 pub const LA_PAZ: TimeZoneRef<'static> = zone(&LA_PAZ_TABLE, &LA_PAZ_TYPES, &rules::MINUS_04_4);
@@ -1361,8 +1275,8 @@ static LOS_ANGELES_TABLE: [Transition; 125] = table([
 /// [`America/Kentucky/Louisville`](crate::america::kentucky::LOUISVILLE).
 pub const LOUISVILLE: TimeZoneRef<'static> = crate::america::kentucky::LOUISVILLE;
 
-/// `America/Lower_Princes`, the same as [`America/Kralendijk`](crate::america::KRALENDIJK).
-pub const LOWER_PRINCES: TimeZoneRef<'static> = crate::america::KRALENDIJK;
+/// `America/Lower_Princes`, the same as [`America/Puerto_Rico`](crate::america::PUERTO_RICO).
+pub const LOWER_PRINCES: TimeZoneRef<'static> = crate::america::PUERTO_RICO;
 
 /// `America/Maceio`: 41 transitions, then `<-03>3`.
 pub const MACEIO: TimeZoneRef<'static> = zone(&MACEIO_TABLE, &MACEIO_TYPES, &rules::MINUS_03_3);
@@ -1406,8 +1320,8 @@ static MANAUS_TABLE: [Transition; 31] = table([
     (540270000, 2), (562132800, 1), (571201200, 2), (750830400, 1), (761713200, 2),
 ]);
 
-/// `America/Marigot`, the same as [`America/Kralendijk`](crate::america::KRALENDIJK).
-pub const MARIGOT: TimeZoneRef<'static> = crate::america::KRALENDIJK;
+/// `America/Marigot`, the same as [`America/Puerto_Rico`](crate::america::PUERTO_RICO).
+pub const MARIGOT: TimeZoneRef<'static> = crate::america::PUERTO_RICO;
 
 /// `America/Martinique`: 4 transitions, then `AST4`.
 pub const MARTINIQUE: TimeZoneRef<'static> = zone(
@@ -1669,49 +1583,8 @@ static MONTEVIDEO_TABLE: [Transition; 86] = table([
     (1425787200, 5),
 ]);
 
-/// `America/Montreal`: 172 transitions, then `EST5EDT,M3.2.0,M11.1.0`.
-pub const MONTREAL: TimeZoneRef<'static> = zone(
-    &MONTREAL_TABLE, &MONTREAL_TYPES, &rules::EST5EDT_M3_2_0_M11_1_0,
-);
-static MONTREAL_TYPES: [LocalTimeType; 5] = [
-    local(-19052, false, "LMT"), local(-14400, true, "EDT"), local(-18000, false, "EST"),
-    local(-14400, true, "EWT"), local(-14400, true, "EPT"),
-];
-static MONTREAL_TABLE: [Transition; 172] = table([
-    (-2366736148, 2), (-1632070800, 1), (-1615140000, 2), (-1601753400, 1), (-1583697600, 2),
-    (-1567357200, 1), (-1554667200, 2), (-1534698000, 1), (-1524074400, 2), (-1503248400, 1),
-    (-1492365600, 2), (-1471798800, 1), (-1460916000, 2), (-1440954000, 1), (-1428861600, 2),
-    (-1409504400, 1), (-1397412000, 2), (-1378054800, 1), (-1365962400, 2), (-1346605200, 1),
-    (-1333908000, 2), (-1315155600, 1), (-1301853600, 2), (-1283706000, 1), (-1270404000, 2),
-    (-1252256400, 1), (-1238954400, 2), (-1220806800, 1), (-1207504800, 2), (-1188752400, 1),
-    (-1176055200, 2), (-1157302800, 1), (-1144000800, 2), (-1125853200, 1), (-1112551200, 2),
-    (-1094403600, 1), (-1081101600, 2), (-1062954000, 1), (-1049652000, 2), (-1031504400, 1),
-    (-1018202400, 2), (-1000054800, 1), (-986752800, 2), (-968000400, 1), (-955303200, 2),
-    (-936550800, 1), (-880218000, 3), (-769395600, 4), (-765396000, 2), (-747248400, 1),
-    (-733946400, 2), (-715798800, 1), (-702496800, 2), (-684349200, 1), (-671047200, 2),
-    (-652899600, 1), (-634154400, 2), (-620845200, 1), (-602704800, 2), (-589395600, 1),
-    (-576093600, 2), (-557946000, 1), (-544644000, 2), (-526496400, 1), (-513194400, 2),
-    (-495046800, 1), (-481744800, 2), (-463597200, 1), (-450295200, 2), (-431542800, 1),
-    (-418240800, 2), (-400093200, 1), (-384372000, 2), (-368643600, 1), (-352922400, 2),
-    (-337194000, 1), (-321472800, 2), (-305744400, 1), (-289418400, 2), (-273690000, 1),
-    (-257968800, 2), (-242240400, 1), (-226519200, 2), (-210790800, 1), (-195069600, 2),
-    (-179341200, 1), (-163620000, 2), (-147891600, 1), (-131565600, 2), (-116442000, 1),
-    (-100116000, 2), (-84387600, 1), (-68666400, 2), (-52938000, 1), (-37216800, 2), (-21488400, 1),
-    (-5767200, 2), (9961200, 1), (25682400, 2), (41410800, 1), (57736800, 2), (73465200, 1),
-    (89186400, 2), (104914800, 1), (120636000, 2), (136364400, 1), (152085600, 2), (167814000, 1),
-    (183535200, 2), (199263600, 1), (215589600, 2), (230713200, 1), (247039200, 2), (262767600, 1),
-    (278488800, 2), (294217200, 1), (309938400, 2), (325666800, 1), (341388000, 2), (357116400, 1),
-    (372837600, 2), (388566000, 1), (404892000, 2), (420015600, 1), (436341600, 2), (452070000, 1),
-    (467791200, 2), (483519600, 1), (499240800, 2), (514969200, 1), (530690400, 2), (544604400, 1),
-    (562140000, 2), (576054000, 1), (594194400, 2), (607503600, 1), (625644000, 2), (638953200, 1),
-    (657093600, 2), (671007600, 1), (688543200, 2), (702457200, 1), (719992800, 2), (733906800, 1),
-    (752047200, 2), (765356400, 1), (783496800, 2), (796806000, 1), (814946400, 2), (828860400, 1),
-    (846396000, 2), (860310000, 1), (877845600, 2), (891759600, 1), (909295200, 2), (923209200, 1),
-    (941349600, 2), (954658800, 1), (972799200, 2), (986108400, 1), (1004248800, 2),
-    (1018162800, 1), (1035698400, 2), (1049612400, 1), (1067148000, 2), (1081062000, 1),
-    (1099202400, 2), (1112511600, 1), (1130652000, 2), (1143961200, 1), (1162101600, 2),
-    (1173596400, 1),
-]);
+/// `America/Montreal`, the same as [`America/Toronto`](crate::america::TORONTO).
+pub const MONTREAL: TimeZoneRef<'static> = crate::america::TORONTO;
 
 /// `America/Montserrat`: 1 transition, then `AST4`.
 pub const MONTSERRAT: TimeZoneRef<'static> = zone(
@@ -1796,8 +1669,8 @@ static NEW_YORK_TABLE: [Transition; 175] = table([
     (1130652000, 2), (1143961200, 1), (1162101600, 2), (1173596400, 1),
 ]);
 
-/// `America/Nipigon`, the same as [`America/Montreal`](crate::america::MONTREAL).
-pub const NIPIGON: TimeZoneRef<'static> = crate::america::MONTREAL;
+/// `America/Nipigon`, the same as [`America/Toronto`](crate::america::TORONTO).
+pub const NIPIGON: TimeZoneRef<'static> = crate::america::TORONTO;
 
 /// `America/Nome`: 84 transitions, then `AKST9AKDT,M3.2.0,M11.1.0`.
 pub const NOME: TimeZoneRef<'static> = zone(
@@ -1843,8 +1716,34 @@ static NORONHA_TABLE: [Transition; 39] = table([
     (1013907600, 2),
 ]);
 
-/// `America/Nuuk`, the same as [`America/Godthab`](crate::america::GODTHAB).
-pub const NUUK: TimeZoneRef<'static> = crate::america::GODTHAB;
+/// `America/Nuuk`: 89 transitions, then `<-02>2<-01>,M3.5.0/-1,M10.5.0/0`.
+pub const NUUK: TimeZoneRef<'static> = zone(
+    &NUUK_TABLE, &NUUK_TYPES, &rules::MINUS_02_2_MINUS_01_M3_5_0_AT_MINUS_1_M10_5_0_AT_0,
+);
+static NUUK_TYPES: [LocalTimeType; 7] = [
+    local(-12416, false, "LMT"), local(-10800, false, "-03"), local(-10800, false, "-03"),
+    local(-7200, true, "-02"), local(-7200, true, "-02"), local(-7200, false, "-02"),
+    local(-3600, true, "-01"),
+];
+static NUUK_TABLE: [Transition; 89] = table([
+    (-1686083584, 1), (323845200, 4), (338950800, 2), (354675600, 3), (370400400, 2),
+    (386125200, 3), (401850000, 2), (417574800, 3), (433299600, 2), (449024400, 3), (465354000, 2),
+    (481078800, 3), (496803600, 2), (512528400, 3), (528253200, 2), (543978000, 3), (559702800, 2),
+    (575427600, 3), (591152400, 2), (606877200, 3), (622602000, 2), (638326800, 3), (654656400, 2),
+    (670381200, 3), (686106000, 2), (701830800, 3), (717555600, 2), (733280400, 3), (749005200, 2),
+    (764730000, 3), (780454800, 2), (796179600, 3), (811904400, 2), (828234000, 3), (846378000, 2),
+    (859683600, 3), (877827600, 2), (891133200, 3), (909277200, 2), (922582800, 3), (941331600, 2),
+    (954032400, 3), (972781200, 2), (985482000, 3), (1004230800, 2), (1017536400, 3),
+    (1035680400, 2), (1048986000, 3), (1067130000, 2), (1080435600, 3), (1099184400, 2),
+    (1111885200, 3), (1130634000, 2), (1143334800, 3), (1162083600, 2), (1174784400, 3),
+    (1193533200, 2), (1206838800, 3), (1224982800, 2), (1238288400, 3), (1256432400, 2),
+    (1269738000, 3), (1288486800, 2), (1301187600, 3), (1319936400, 2), (1332637200, 3),
+    (1351386000, 2), (1364691600, 3), (1382835600, 2), (1396141200, 3), (1414285200, 2),
+    (1427590800, 3), (1445734800, 2), (1459040400, 3), (1477789200, 2), (1490490000, 3),
+    (1509238800, 2), (1521939600, 3), (1540688400, 2), (1553994000, 3), (1572138000, 2),
+    (1585443600, 3), (1603587600, 2), (1616893200, 3), (1635642000, 2), (1648342800, 3),
+    (1667091600, 2), (1679792400, 5), (1711846800, 6),
+]);
 
 /// `America/Ojinaga`: 61 transitions, then `CST6CDT,M3.2.0,M11.1.0`.
 pub const OJINAGA: TimeZoneRef<'static> = zone(
@@ -1870,8 +1769,14 @@ static OJINAGA_TABLE: [Transition; 61] = table([
     (1615712400, 3), (1636272000, 4), (1647162000, 3), (1667116800, 2), (1678608000, 5),
 ]);
 
-/// `America/Panama`, the same as [`America/Coral_Harbour`](crate::america::CORAL_HARBOUR).
-pub const PANAMA: TimeZoneRef<'static> = crate::america::CORAL_HARBOUR;
+/// `America/Panama`: 2 transitions, then `EST5`.
+pub const PANAMA: TimeZoneRef<'static> = zone(&PANAMA_TABLE, &PANAMA_TYPES, &rules::EST5);
+static PANAMA_TYPES: [LocalTimeType; 3] = [
+    local(-19088, false, "LMT"), local(-19176, false, "CMT"), local(-18000, false, "EST"),
+];
+static PANAMA_TABLE: [Transition; 2] = table([
+    (-2524502512, 1), (-1946918424, 2),
+]);
 
 /// `America/Pangnirtung`, the same as [`America/Iqaluit`](crate::america::IQALUIT).
 pub const PANGNIRTUNG: TimeZoneRef<'static> = crate::america::IQALUIT;
@@ -1931,22 +1836,8 @@ static PORT_OF_SPAIN_TABLE: [Transition; 1] = table([
     (-1825098836, 1),
 ]);
 
-/// `America/Porto_Acre`: 31 transitions, then `<-05>5`.
-pub const PORTO_ACRE: TimeZoneRef<'static> = zone(
-    &PORTO_ACRE_TABLE, &PORTO_ACRE_TYPES, &rules::MINUS_05_5,
-);
-static PORTO_ACRE_TYPES: [LocalTimeType; 5] = [
-    local(-16272, false, "LMT"), local(-14400, true, "-04"), local(-18000, false, "-05"),
-    local(-14400, false, "-04"), local(-18000, false, "-05"),
-];
-static PORTO_ACRE_TABLE: [Transition; 31] = table([
-    (-1767209328, 2), (-1206950400, 1), (-1191355200, 2), (-1175367600, 1), (-1159819200, 2),
-    (-633812400, 1), (-622062000, 2), (-602276400, 1), (-591825600, 2), (-570740400, 1),
-    (-560203200, 2), (-539118000, 1), (-531345600, 2), (-191358000, 1), (-184190400, 2),
-    (-155156400, 1), (-150062400, 2), (-128890800, 1), (-121118400, 2), (-99946800, 1),
-    (-89582400, 2), (-68410800, 1), (-57960000, 2), (499755600, 1), (511243200, 2), (530600400, 1),
-    (540273600, 2), (562136400, 1), (571204800, 2), (1214283600, 3), (1384056000, 2),
-]);
+/// `America/Porto_Acre`, the same as [`America/Rio_Branco`](crate::america::RIO_BRANCO).
+pub const PORTO_ACRE: TimeZoneRef<'static> = crate::america::RIO_BRANCO;
 
 /// `America/Porto_Velho`: 29 transitions, then `<-04>4`.
 pub const PORTO_VELHO: TimeZoneRef<'static> = zone(
@@ -1964,8 +1855,17 @@ static PORTO_VELHO_TABLE: [Transition; 29] = table([
     (540270000, 2), (562132800, 1), (571201200, 2),
 ]);
 
-/// `America/Puerto_Rico`, the same as [`America/Kralendijk`](crate::america::KRALENDIJK).
-pub const PUERTO_RICO: TimeZoneRef<'static> = crate::america::KRALENDIJK;
+/// `America/Puerto_Rico`: 4 transitions, then `AST4`.
+pub const PUERTO_RICO: TimeZoneRef<'static> = zone(
+    &PUERTO_RICO_TABLE, &PUERTO_RICO_TYPES, &rules::AST4,
+);
+static PUERTO_RICO_TYPES: [LocalTimeType; 4] = [
+    local(-15865, false, "LMT"), local(-14400, false, "AST"), local(-10800, true, "APT"),
+    local(-10800, true, "AWT"),
+];
+static PUERTO_RICO_TABLE: [Transition; 4] = table([
+    (-2233035335, 1), (-873057600, 3), (-769395600, 2), (-765399600, 1),
+]);
 
 /// `America/Punta_Arenas`: 117 transitions, then `<-03>3`.
 pub const PUNTA_ARENAS: TimeZoneRef<'static> = zone(
@@ -2001,40 +1901,8 @@ static PUNTA_ARENAS_TABLE: [Transition; 117] = table([
     (1480820400, 7),
 ]);
 
-/// `America/Rainy_River`: 125 transitions, then `CST6CDT,M3.2.0,M11.1.0`.
-pub const RAINY_RIVER: TimeZoneRef<'static> = zone(
-    &RAINY_RIVER_TABLE, &RAINY_RIVER_TYPES, &rules::CST6CDT_M3_2_0_M11_1_0,
-);
-static RAINY_RIVER_TYPES: [LocalTimeType; 7] = [
-    local(-23316, false, "LMT"), local(-18000, true, "CDT"), local(-21600, false, "CST"),
-    local(-18000, true, "CWT"), local(-18000, true, "CPT"), local(-18000, true, "CDT"),
-    local(-21600, false, "CST"),
-];
-static RAINY_RIVER_TABLE: [Transition; 125] = table([
-    (-2602258284, 2), (-1694368800, 1), (-1681671600, 2), (-1632067200, 1), (-1615136400, 2),
-    (-1029686400, 1), (-1018198800, 2), (-880214400, 3), (-769395600, 4), (-765392400, 2),
-    (-746035200, 1), (-732733200, 2), (-715795200, 1), (-702493200, 2), (-684345600, 1),
-    (-671043600, 2), (-652896000, 1), (-639594000, 2), (-620755200, 1), (-607626000, 2),
-    (-589392000, 1), (-576090000, 2), (-557942400, 1), (-544640400, 2), (-526492800, 1),
-    (-513190800, 2), (-495043200, 1), (-481741200, 2), (-463593600, 1), (-450291600, 2),
-    (-431539200, 1), (-418237200, 2), (-400089600, 1), (-386787600, 2), (-368640000, 1),
-    (-355338000, 2), (-337190400, 1), (-321469200, 2), (-305740800, 1), (-292438800, 2),
-    (-210787200, 1), (-198090000, 2), (-116438400, 5), (-100108800, 6), (-84384000, 5),
-    (-68659200, 6), (-52934400, 5), (-37209600, 6), (-21484800, 5), (-5760000, 6), (9964800, 5),
-    (25689600, 6), (41414400, 5), (57744000, 6), (73468800, 5), (89193600, 6), (104918400, 5),
-    (120643200, 6), (136368000, 5), (152092800, 6), (167817600, 5), (183542400, 6), (199267200, 5),
-    (215596800, 6), (230716800, 5), (247046400, 6), (262771200, 5), (278496000, 6), (294220800, 5),
-    (309945600, 6), (325670400, 5), (341395200, 6), (357120000, 5), (372844800, 6), (388569600, 5),
-    (404899200, 6), (420019200, 5), (436348800, 6), (452073600, 5), (467798400, 6), (483523200, 5),
-    (499248000, 6), (514972800, 5), (530697600, 6), (544608000, 5), (562147200, 6), (576057600, 5),
-    (594201600, 6), (607507200, 5), (625651200, 6), (638956800, 5), (657100800, 6), (671011200, 5),
-    (688550400, 6), (702460800, 5), (720000000, 6), (733910400, 5), (752054400, 6), (765360000, 5),
-    (783504000, 6), (796809600, 5), (814953600, 6), (828864000, 5), (846403200, 6), (860313600, 5),
-    (877852800, 6), (891763200, 5), (909302400, 6), (923212800, 5), (941356800, 6), (954662400, 5),
-    (972806400, 6), (986112000, 5), (1004256000, 6), (1018166400, 5), (1035705600, 6),
-    (1049616000, 5), (1067155200, 6), (1081065600, 5), (1099209600, 6), (1112515200, 5),
-    (1130659200, 6), (1143964800, 1), (1162105200, 2), (1173600000, 1),
-]);
+/// `America/Rainy_River`, the same as [`America/Winnipeg`](crate::america::WINNIPEG).
+pub const RAINY_RIVER: TimeZoneRef<'static> = crate::america::WINNIPEG;
 
 /// `America/Rankin_Inlet`: 72 transitions, then `CST6CDT,M3.2.0,M11.1.0`.
 pub const RANKIN_INLET: TimeZoneRef<'static> = zone(
@@ -2116,15 +1984,29 @@ static RESOLUTE_TABLE: [Transition; 72] = table([
     (1162105200, 3), (1173600000, 1),
 ]);
 
-/// `America/Rio_Branco`, the same as [`America/Porto_Acre`](crate::america::PORTO_ACRE).
-pub const RIO_BRANCO: TimeZoneRef<'static> = crate::america::PORTO_ACRE;
+/// `America/Rio_Branco`: 31 transitions, then `<-05>5`.
+pub const RIO_BRANCO: TimeZoneRef<'static> = zone(
+    &RIO_BRANCO_TABLE, &RIO_BRANCO_TYPES, &rules::MINUS_05_5,
+);
+static RIO_BRANCO_TYPES: [LocalTimeType; 5] = [
+    local(-16272, false, "LMT"), local(-14400, true, "-04"), local(-18000, false, "-05"),
+    local(-14400, false, "-04"), local(-18000, false, "-05"),
+];
+static RIO_BRANCO_TABLE: [Transition; 31] = table([
+    (-1767209328, 2), (-1206950400, 1), (-1191355200, 2), (-1175367600, 1), (-1159819200, 2),
+    (-633812400, 1), (-622062000, 2), (-602276400, 1), (-591825600, 2), (-570740400, 1),
+    (-560203200, 2), (-539118000, 1), (-531345600, 2), (-191358000, 1), (-184190400, 2),
+    (-155156400, 1), (-150062400, 2), (-128890800, 1), (-121118400, 2), (-99946800, 1),
+    (-89582400, 2), (-68410800, 1), (-57960000, 2), (499755600, 1), (511243200, 2), (530600400, 1),
+    (540273600, 2), (562136400, 1), (571204800, 2), (1214283600, 3), (1384056000, 2),
+]);
 
 /// `America/Rosario`, the same as
 /// [`America/Argentina/Cordoba`](crate::america::argentina::CORDOBA).
 pub const ROSARIO: TimeZoneRef<'static> = crate::america::argentina::CORDOBA;
 
-/// `America/Santa_Isabel`, the same as [`America/Ensenada`](crate::america::ENSENADA).
-pub const SANTA_ISABEL: TimeZoneRef<'static> = crate::america::ENSENADA;
+/// `America/Santa_Isabel`, the same as [`America/Tijuana`](crate::america::TIJUANA).
+pub const SANTA_ISABEL: TimeZoneRef<'static> = crate::america::TIJUANA;
 
 /// `America/Santarem`: 30 transitions, then `<-03>3`.
 pub const SANTAREM: TimeZoneRef<'static> = zone(
@@ -2280,8 +2162,8 @@ static SITKA_TABLE: [Transition; 83] = table([
     (1162116000, 8), (1173610800, 7),
 ]);
 
-/// `America/St_Barthelemy`, the same as [`America/Kralendijk`](crate::america::KRALENDIJK).
-pub const ST_BARTHELEMY: TimeZoneRef<'static> = crate::america::KRALENDIJK;
+/// `America/St_Barthelemy`, the same as [`America/Puerto_Rico`](crate::america::PUERTO_RICO).
+pub const ST_BARTHELEMY: TimeZoneRef<'static> = crate::america::PUERTO_RICO;
 
 /// `America/St_Johns`: 187 transitions, then `NST3:30NDT,M3.2.0,M11.1.0`.
 pub const ST_JOHNS: TimeZoneRef<'static> = zone(
@@ -2414,14 +2296,83 @@ static THULE_TABLE: [Transition; 34] = table([
     (1173592800, 1),
 ]);
 
-/// `America/Thunder_Bay`, the same as [`America/Montreal`](crate::america::MONTREAL).
-pub const THUNDER_BAY: TimeZoneRef<'static> = crate::america::MONTREAL;
+/// `America/Thunder_Bay`, the same as [`America/Toronto`](crate::america::TORONTO).
+pub const THUNDER_BAY: TimeZoneRef<'static> = crate::america::TORONTO;
 
-/// `America/Tijuana`, the same as [`America/Ensenada`](crate::america::ENSENADA).
-pub const TIJUANA: TimeZoneRef<'static> = crate::america::ENSENADA;
+/// `America/Tijuana`: 100 transitions, then `PST8PDT,M3.2.0,M11.1.0`.
+pub const TIJUANA: TimeZoneRef<'static> = zone(
+    &TIJUANA_TABLE, &TIJUANA_TYPES, &rules::PST8PDT_M3_2_0_M11_1_0,
+);
+static TIJUANA_TYPES: [LocalTimeType; 8] = [
+    local(-28084, false, "LMT"), local(-25200, false, "MST"), local(-28800, false, "PST"),
+    local(-25200, false, "MST"), local(-25200, true, "PDT"), local(-25200, true, "PWT"),
+    local(-25200, true, "PPT"), local(-28800, false, "PST"),
+];
+static TIJUANA_TABLE: [Transition; 100] = table([
+    (-1514739600, 1), (-1451667600, 2), (-1343145600, 3), (-1234803600, 2), (-1222963200, 4),
+    (-1207242000, 2), (-873820800, 5), (-769395600, 6), (-761418000, 2), (-686073600, 4),
+    (-661539600, 2), (-620755200, 4), (-608144400, 2), (-589384800, 4), (-576082800, 2),
+    (-557935200, 4), (-544633200, 2), (-495039600, 4), (-481734000, 2), (-463590000, 4),
+    (-450284400, 2), (-431535600, 4), (-418230000, 2), (-400086000, 4), (-386780400, 2),
+    (-368636400, 4), (-355330800, 2), (-337186800, 4), (-323881200, 2), (-305737200, 4),
+    (-292431600, 2), (199274400, 4), (215600400, 2), (230724000, 4), (247050000, 2), (262778400, 4),
+    (278499600, 2), (294228000, 4), (309949200, 2), (325677600, 4), (341398800, 2), (357127200, 4),
+    (372848400, 2), (388576800, 4), (404902800, 2), (420026400, 4), (436352400, 2), (452080800, 4),
+    (467802000, 2), (483530400, 4), (499251600, 2), (514980000, 4), (530701200, 2), (544615200, 4),
+    (562150800, 2), (576064800, 4), (594205200, 2), (607514400, 4), (625654800, 2), (638964000, 4),
+    (657104400, 2), (671018400, 4), (688554000, 2), (702468000, 4), (720003600, 2), (733917600, 4),
+    (752058000, 2), (765367200, 4), (783507600, 2), (796816800, 4), (814957200, 2), (828871200, 4),
+    (846406800, 2), (860320800, 4), (877856400, 2), (891770400, 4), (909306000, 2), (923220000, 4),
+    (941360400, 2), (954669600, 4), (972810000, 2), (986119200, 4), (1004259600, 2),
+    (1018173600, 4), (1035709200, 2), (1049623200, 4), (1067158800, 2), (1081072800, 4),
+    (1099213200, 2), (1112522400, 4), (1130662800, 2), (1143972000, 4), (1162112400, 2),
+    (1175421600, 4), (1193562000, 2), (1207476000, 4), (1225011600, 2), (1238925600, 4),
+    (1256461200, 2), (1268560800, 4),
+]);
 
-/// `America/Toronto`, the same as [`America/Montreal`](crate::america::MONTREAL).
-pub const TORONTO: TimeZoneRef<'static> = crate::america::MONTREAL;
+/// `America/Toronto`: 172 transitions, then `EST5EDT,M3.2.0,M11.1.0`.
+pub const TORONTO: TimeZoneRef<'static> = zone(
+    &TORONTO_TABLE, &TORONTO_TYPES, &rules::EST5EDT_M3_2_0_M11_1_0,
+);
+static TORONTO_TYPES: [LocalTimeType; 5] = [
+    local(-19052, false, "LMT"), local(-14400, true, "EDT"), local(-18000, false, "EST"),
+    local(-14400, true, "EWT"), local(-14400, true, "EPT"),
+];
+static TORONTO_TABLE: [Transition; 172] = table([
+    (-2366736148, 2), (-1632070800, 1), (-1615140000, 2), (-1601753400, 1), (-1583697600, 2),
+    (-1567357200, 1), (-1554667200, 2), (-1534698000, 1), (-1524074400, 2), (-1503248400, 1),
+    (-1492365600, 2), (-1471798800, 1), (-1460916000, 2), (-1440954000, 1), (-1428861600, 2),
+    (-1409504400, 1), (-1397412000, 2), (-1378054800, 1), (-1365962400, 2), (-1346605200, 1),
+    (-1333908000, 2), (-1315155600, 1), (-1301853600, 2), (-1283706000, 1), (-1270404000, 2),
+    (-1252256400, 1), (-1238954400, 2), (-1220806800, 1), (-1207504800, 2), (-1188752400, 1),
+    (-1176055200, 2), (-1157302800, 1), (-1144000800, 2), (-1125853200, 1), (-1112551200, 2),
+    (-1094403600, 1), (-1081101600, 2), (-1062954000, 1), (-1049652000, 2), (-1031504400, 1),
+    (-1018202400, 2), (-1000054800, 1), (-986752800, 2), (-968000400, 1), (-955303200, 2),
+    (-936550800, 1), (-880218000, 3), (-769395600, 4), (-765396000, 2), (-747248400, 1),
+    (-733946400, 2), (-715798800, 1), (-702496800, 2), (-684349200, 1), (-671047200, 2),
+    (-652899600, 1), (-634154400, 2), (-620845200, 1), (-602704800, 2), (-589395600, 1),
+    (-576093600, 2), (-557946000, 1), (-544644000, 2), (-526496400, 1), (-513194400, 2),
+    (-495046800, 1), (-481744800, 2), (-463597200, 1), (-450295200, 2), (-431542800, 1),
+    (-418240800, 2), (-400093200, 1), (-384372000, 2), (-368643600, 1), (-352922400, 2),
+    (-337194000, 1), (-321472800, 2), (-305744400, 1), (-289418400, 2), (-273690000, 1),
+    (-257968800, 2), (-242240400, 1), (-226519200, 2), (-210790800, 1), (-195069600, 2),
+    (-179341200, 1), (-163620000, 2), (-147891600, 1), (-131565600, 2), (-116442000, 1),
+    (-100116000, 2), (-84387600, 1), (-68666400, 2), (-52938000, 1), (-37216800, 2), (-21488400, 1),
+    (-5767200, 2), (9961200, 1), (25682400, 2), (41410800, 1), (57736800, 2), (73465200, 1),
+    (89186400, 2), (104914800, 1), (120636000, 2), (136364400, 1), (152085600, 2), (167814000, 1),
+    (183535200, 2), (199263600, 1), (215589600, 2), (230713200, 1), (247039200, 2), (262767600, 1),
+    (278488800, 2), (294217200, 1), (309938400, 2), (325666800, 1), (341388000, 2), (357116400, 1),
+    (372837600, 2), (388566000, 1), (404892000, 2), (420015600, 1), (436341600, 2), (452070000, 1),
+    (467791200, 2), (483519600, 1), (499240800, 2), (514969200, 1), (530690400, 2), (544604400, 1),
+    (562140000, 2), (576054000, 1), (594194400, 2), (607503600, 1), (625644000, 2), (638953200, 1),
+    (657093600, 2), (671007600, 1), (688543200, 2), (702457200, 1), (719992800, 2), (733906800, 1),
+    (752047200, 2), (765356400, 1), (783496800, 2), (796806000, 1), (814946400, 2), (828860400, 1),
+    (846396000, 2), (860310000, 1), (877845600, 2), (891759600, 1), (909295200, 2), (923209200, 1),
+    (941349600, 2), (954658800, 1), (972799200, 2), (986108400, 1), (1004248800, 2),
+    (1018162800, 1), (1035698400, 2), (1049612400, 1), (1067148000, 2), (1081062000, 1),
+    (1099202400, 2), (1112511600, 1), (1130652000, 2), (1143961200, 1), (1162101600, 2),
+    (1173596400, 1),
+]);
 
 /// `America/Tortola`: 1 transition, then `AST4`.
 pub const TORTOLA: TimeZoneRef<'static> = zone(&TORTOLA_TABLE, &TORTOLA_TYPES, &rules::AST4);
@@ -2467,8 +2418,8 @@ static VANCOUVER_TABLE: [Transition; 129] = table([
     (1143972000, 1), (1162112400, 2), (1173607200, 1),
 ]);
 
-/// `America/Virgin`, the same as [`America/Kralendijk`](crate::america::KRALENDIJK).
-pub const VIRGIN: TimeZoneRef<'static> = crate::america::KRALENDIJK;
+/// `America/Virgin`, the same as [`America/Puerto_Rico`](crate::america::PUERTO_RICO).
+pub const VIRGIN: TimeZoneRef<'static> = crate::america::PUERTO_RICO;
 
 /// `America/Whitehorse`: 93 transitions, then `MST7`.
 pub const WHITEHORSE: TimeZoneRef<'static> = zone(
@@ -2500,8 +2451,40 @@ static WHITEHORSE_TABLE: [Transition; 93] = table([
     (1604214000, 8),
 ]);
 
-/// `America/Winnipeg`, the same as [`America/Rainy_River`](crate::america::RAINY_RIVER).
-pub const WINNIPEG: TimeZoneRef<'static> = crate::america::RAINY_RIVER;
+/// `America/Winnipeg`: 125 transitions, then `CST6CDT,M3.2.0,M11.1.0`.
+pub const WINNIPEG: TimeZoneRef<'static> = zone(
+    &WINNIPEG_TABLE, &WINNIPEG_TYPES, &rules::CST6CDT_M3_2_0_M11_1_0,
+);
+static WINNIPEG_TYPES: [LocalTimeType; 7] = [
+    local(-23316, false, "LMT"), local(-18000, true, "CDT"), local(-21600, false, "CST"),
+    local(-18000, true, "CWT"), local(-18000, true, "CPT"), local(-18000, true, "CDT"),
+    local(-21600, false, "CST"),
+];
+static WINNIPEG_TABLE: [Transition; 125] = table([
+    (-2602258284, 2), (-1694368800, 1), (-1681671600, 2), (-1632067200, 1), (-1615136400, 2),
+    (-1029686400, 1), (-1018198800, 2), (-880214400, 3), (-769395600, 4), (-765392400, 2),
+    (-746035200, 1), (-732733200, 2), (-715795200, 1), (-702493200, 2), (-684345600, 1),
+    (-671043600, 2), (-652896000, 1), (-639594000, 2), (-620755200, 1), (-607626000, 2),
+    (-589392000, 1), (-576090000, 2), (-557942400, 1), (-544640400, 2), (-526492800, 1),
+    (-513190800, 2), (-495043200, 1), (-481741200, 2), (-463593600, 1), (-450291600, 2),
+    (-431539200, 1), (-418237200, 2), (-400089600, 1), (-386787600, 2), (-368640000, 1),
+    (-355338000, 2), (-337190400, 1), (-321469200, 2), (-305740800, 1), (-292438800, 2),
+    (-210787200, 1), (-198090000, 2), (-116438400, 5), (-100108800, 6), (-84384000, 5),
+    (-68659200, 6), (-52934400, 5), (-37209600, 6), (-21484800, 5), (-5760000, 6), (9964800, 5),
+    (25689600, 6), (41414400, 5), (57744000, 6), (73468800, 5), (89193600, 6), (104918400, 5),
+    (120643200, 6), (136368000, 5), (152092800, 6), (167817600, 5), (183542400, 6), (199267200, 5),
+    (215596800, 6), (230716800, 5), (247046400, 6), (262771200, 5), (278496000, 6), (294220800, 5),
+    (309945600, 6), (325670400, 5), (341395200, 6), (357120000, 5), (372844800, 6), (388569600, 5),
+    (404899200, 6), (420019200, 5), (436348800, 6), (452073600, 5), (467798400, 6), (483523200, 5),
+    (499248000, 6), (514972800, 5), (530697600, 6), (544608000, 5), (562147200, 6), (576057600, 5),
+    (594201600, 6), (607507200, 5), (625651200, 6), (638956800, 5), (657100800, 6), (671011200, 5),
+    (688550400, 6), (702460800, 5), (720000000, 6), (733910400, 5), (752054400, 6), (765360000, 5),
+    (783504000, 6), (796809600, 5), (814953600, 6), (828864000, 5), (846403200, 6), (860313600, 5),
+    (877852800, 6), (891763200, 5), (909302400, 6), (923212800, 5), (941356800, 6), (954662400, 5),
+    (972806400, 6), (986112000, 5), (1004256000, 6), (1018166400, 5), (1035705600, 6),
+    (1049616000, 5), (1067155200, 6), (1081065600, 5), (1099209600, 6), (1112515200, 5),
+    (1130659200, 6), (1143964800, 1), (1162105200, 2), (1173600000, 1),
+]);
 
 /// `America/Yakutat`: 83 transitions, then `AKST9AKDT,M3.2.0,M11.1.0`.
 pub const YAKUTAT: TimeZoneRef<'static> = zone(

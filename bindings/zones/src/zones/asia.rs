@@ -321,18 +321,8 @@ static BRUNEI_TABLE: [Transition; 2] = table([
     (-1383464380, 1), (-1167636600, 2),
 ]);
 
-/// `Asia/Calcutta`: 7 transitions, then `IST-5:30`.
-pub const CALCUTTA: TimeZoneRef<'static> = zone(
-    &CALCUTTA_TABLE, &CALCUTTA_TYPES, &rules::IST_MINUS_5_30,
-);
-static CALCUTTA_TYPES: [LocalTimeType; 5] = [
-    local(21208, false, "LMT"), local(21200, false, "HMT"), local(19270, false, "MMT"),
-    local(19800, false, "IST"), local(23400, true, "+0630"),
-];
-static CALCUTTA_TABLE: [Transition; 7] = table([
-    (-3645237208, 1), (-3155694800, 2), (-2019705670, 3), (-891581400, 4), (-872058600, 3),
-    (-862637400, 4), (-764145000, 3),
-]);
+/// `Asia/Calcutta`, the same as [`Asia/Kolkata`](crate::asia::KOLKATA).
+pub const CALCUTTA: TimeZoneRef<'static> = crate::asia::KOLKATA;
 
 /// `Asia/Chita`: 66 transitions, then `<+09>-9`.
 pub const CHITA: TimeZoneRef<'static> = zone(&CHITA_TABLE, &CHITA_TYPES, &rules::PLUS_09_MINUS_9);
@@ -357,44 +347,14 @@ static CHITA_TABLE: [Transition; 66] = table([
     (1269709200, 5), (1288458000, 4), (1301158800, 8), (1414252800, 7), (1459015200, 3),
 ]);
 
-/// `Asia/Choibalsan`: 50 transitions, then `<+08>-8`.
-pub const CHOIBALSAN: TimeZoneRef<'static> = zone(
-    &CHOIBALSAN_TABLE, &CHOIBALSAN_TYPES, &rules::PLUS_08_MINUS_8,
-);
-static CHOIBALSAN_TYPES: [LocalTimeType; 4] = [
-    local(25652, false, "LMT"), local(25200, false, "+07"), local(32400, true, "+09"),
-    local(28800, false, "+08"),
-];
-static CHOIBALSAN_TABLE: [Transition; 50] = table([
-    (-2032931252, 1), (252435600, 3), (417974400, 2), (433782000, 3), (449596800, 2),
-    (465318000, 3), (481046400, 2), (496767600, 3), (512496000, 2), (528217200, 3), (543945600, 2),
-    (559666800, 3), (575395200, 2), (591116400, 3), (606844800, 2), (622566000, 3), (638294400, 2),
-    (654620400, 3), (670348800, 2), (686070000, 3), (701798400, 2), (717519600, 3), (733248000, 2),
-    (748969200, 3), (764697600, 2), (780418800, 3), (796147200, 2), (811868400, 3), (828201600, 2),
-    (843922800, 3), (859651200, 2), (875372400, 3), (891100800, 2), (906822000, 3), (988394400, 2),
-    (1001696400, 3), (1017424800, 2), (1033146000, 3), (1048874400, 2), (1064595600, 3),
-    (1080324000, 2), (1096045200, 3), (1111773600, 2), (1127494800, 3), (1143223200, 2),
-    (1159549200, 3), (1427479200, 2), (1443193200, 3), (1458928800, 2), (1474642800, 3),
-]);
+/// `Asia/Choibalsan`, the same as [`Asia/Ulaanbaatar`](crate::asia::ULAANBAATAR).
+pub const CHOIBALSAN: TimeZoneRef<'static> = crate::asia::ULAANBAATAR;
 
-/// `Asia/Chongqing`: 29 transitions, then `CST-8`.
-pub const CHONGQING: TimeZoneRef<'static> = zone(
-    &CHONGQING_TABLE, &CHONGQING_TYPES, &rules::CST_MINUS_8,
-);
-static CHONGQING_TYPES: [LocalTimeType; 3] = [
-    local(29143, false, "LMT"), local(32400, true, "CDT"), local(28800, false, "CST"),
-];
-static CHONGQING_TABLE: [Transition; 29] = table([
-    (-2177481943, 2), (-1600675200, 1), (-1585904400, 2), (-933667200, 1), (-922093200, 2),
-    (-908870400, 1), (-888829200, 2), (-881049600, 1), (-767869200, 2), (-745833600, 1),
-    (-733827600, 2), (-716889600, 1), (-699613200, 2), (-683884800, 1), (-670669200, 2),
-    (-652348800, 1), (-650019600, 2), (515527200, 1), (527014800, 2), (545162400, 1),
-    (558464400, 2), (577216800, 1), (589914000, 2), (608666400, 1), (621968400, 2), (640116000, 1),
-    (653418000, 2), (671565600, 1), (684867600, 2),
-]);
+/// `Asia/Chongqing`, the same as [`Asia/Shanghai`](crate::asia::SHANGHAI).
+pub const CHONGQING: TimeZoneRef<'static> = crate::asia::SHANGHAI;
 
-/// `Asia/Chungking`, the same as [`Asia/Chongqing`](crate::asia::CHONGQING).
-pub const CHUNGKING: TimeZoneRef<'static> = crate::asia::CHONGQING;
+/// `Asia/Chungking`, the same as [`Asia/Shanghai`](crate::asia::SHANGHAI).
+pub const CHUNGKING: TimeZoneRef<'static> = crate::asia::SHANGHAI;
 
 /// `Asia/Colombo`: 8 transitions, then `<+0530>-5:30`.
 pub const COLOMBO: TimeZoneRef<'static> = zone(
@@ -410,16 +370,8 @@ static COLOMBO_TABLE: [Transition; 8] = table([
     (832962600, 5), (846266400, 6), (1145039400, 2),
 ]);
 
-/// `Asia/Dacca`: 7 transitions, then `<+06>-6`.
-pub const DACCA: TimeZoneRef<'static> = zone(&DACCA_TABLE, &DACCA_TYPES, &rules::PLUS_06_MINUS_6);
-static DACCA_TYPES: [LocalTimeType; 6] = [
-    local(21700, false, "LMT"), local(21200, false, "HMT"), local(23400, false, "+0630"),
-    local(19800, false, "+0530"), local(21600, false, "+06"), local(25200, true, "+07"),
-];
-static DACCA_TABLE: [Transition; 7] = table([
-    (-2524543300, 1), (-891582800, 2), (-872058600, 3), (-862637400, 2), (-576138600, 4),
-    (1245430800, 5), (1262278800, 4),
-]);
+/// `Asia/Dacca`, the same as [`Asia/Dhaka`](crate::asia::DHAKA).
+pub const DACCA: TimeZoneRef<'static> = crate::asia::DHAKA;
 
 /// `Asia/Damascus`: 121 transitions, then `<+03>-3`.
 pub const DAMASCUS: TimeZoneRef<'static> = zone(
@@ -455,8 +407,16 @@ static DAMASCUS_TABLE: [Transition; 121] = table([
     (1648159200, 1), (1666904400, 3),
 ]);
 
-/// `Asia/Dhaka`, the same as [`Asia/Dacca`](crate::asia::DACCA).
-pub const DHAKA: TimeZoneRef<'static> = crate::asia::DACCA;
+/// `Asia/Dhaka`: 7 transitions, then `<+06>-6`.
+pub const DHAKA: TimeZoneRef<'static> = zone(&DHAKA_TABLE, &DHAKA_TYPES, &rules::PLUS_06_MINUS_6);
+static DHAKA_TYPES: [LocalTimeType; 6] = [
+    local(21700, false, "LMT"), local(21200, false, "HMT"), local(23400, false, "+0630"),
+    local(19800, false, "+0530"), local(21600, false, "+06"), local(25200, true, "+07"),
+];
+static DHAKA_TABLE: [Transition; 7] = table([
+    (-2524543300, 1), (-891582800, 2), (-872058600, 3), (-862637400, 2), (-576138600, 4),
+    (1245430800, 5), (1262278800, 4),
+]);
 
 /// `Asia/Dili`: 4 transitions, then `<+09>-9`.
 pub const DILI: TimeZoneRef<'static> = zone(&DILI_TABLE, &DILI_TYPES, &rules::PLUS_09_MINUS_9);
@@ -595,8 +555,8 @@ static GAZA_TABLE: [Transition; 307] = table([
     (3642883200, 4), (3654975600, 3), (3668284800, 4), (3669490800, 3), (3673123200, 4),
 ]);
 
-/// `Asia/Harbin`, the same as [`Asia/Chongqing`](crate::asia::CHONGQING).
-pub const HARBIN: TimeZoneRef<'static> = crate::asia::CHONGQING;
+/// `Asia/Harbin`, the same as [`Asia/Shanghai`](crate::asia::SHANGHAI).
+pub const HARBIN: TimeZoneRef<'static> = crate::asia::SHANGHAI;
 
 /// `Asia/Hebron`: 309 transitions, then `EET-2EEST,M3.4.4/50,M10.4.4/50`.
 pub const HEBRON: TimeZoneRef<'static> = zone(
@@ -754,40 +714,8 @@ static IRKUTSK_TABLE: [Transition; 66] = table([
     (1256407200, 5), (1269712800, 6), (1288461600, 5), (1301162400, 9), (1414256400, 5),
 ]);
 
-/// `Asia/Istanbul`: 115 transitions, then `<+03>-3`.
-pub const ISTANBUL: TimeZoneRef<'static> = zone(
-    &ISTANBUL_TABLE, &ISTANBUL_TYPES, &rules::PLUS_03_MINUS_3,
-);
-static ISTANBUL_TYPES: [LocalTimeType; 11] = [
-    local(6952, false, "LMT"), local(7016, false, "IMT"), local(10800, true, "EEST"),
-    local(7200, false, "EET"), local(10800, false, "+03"), local(14400, true, "+04"),
-    local(10800, true, "EEST"), local(7200, false, "EET"), local(10800, true, "EEST"),
-    local(7200, false, "EET"), local(10800, false, "+03"),
-];
-static ISTANBUL_TABLE: [Transition; 115] = table([
-    (-2840147752, 1), (-1869875816, 3), (-1693706400, 2), (-1680490800, 3), (-1570413600, 2),
-    (-1552186800, 3), (-1538359200, 2), (-1522551600, 3), (-1507514400, 2), (-1490583600, 3),
-    (-1440208800, 2), (-1428030000, 3), (-1409709600, 2), (-1396494000, 3), (-931053600, 2),
-    (-922676400, 3), (-917834400, 2), (-892436400, 3), (-875844000, 2), (-764737200, 3),
-    (-744343200, 2), (-733806000, 3), (-716436000, 2), (-701924400, 3), (-684986400, 2),
-    (-670474800, 3), (-654141600, 2), (-639025200, 3), (-622087200, 2), (-606970800, 3),
-    (-590032800, 2), (-575521200, 3), (-235620000, 2), (-194842800, 3), (-177732000, 2),
-    (-165726000, 3), (107910000, 2), (121215600, 3), (133920000, 2), (152665200, 3), (164678400, 2),
-    (184114800, 3), (196214400, 2), (215564400, 3), (228873600, 2), (245804400, 3), (260323200, 2),
-    (267915600, 4), (428454000, 5), (433893600, 4), (468111600, 3), (482799600, 6), (496710000, 7),
-    (512521200, 6), (528246000, 7), (543970800, 6), (559695600, 7), (575420400, 6), (591145200, 7),
-    (606870000, 6), (622594800, 7), (638319600, 6), (654649200, 7), (670374000, 6), (686098800, 7),
-    (701823600, 6), (717548400, 7), (733273200, 6), (748998000, 7), (764118000, 6), (780447600, 7),
-    (796172400, 6), (811897200, 7), (828226800, 6), (846370800, 7), (859676400, 6), (877820400, 7),
-    (891126000, 6), (909270000, 7), (922575600, 6), (941324400, 7), (954025200, 6), (972774000, 7),
-    (985474800, 6), (1004223600, 7), (1017529200, 6), (1035673200, 7), (1048978800, 6),
-    (1067122800, 7), (1080428400, 6), (1099177200, 7), (1111878000, 6), (1130626800, 7),
-    (1143327600, 6), (1162076400, 7), (1174784400, 8), (1193533200, 9), (1206838800, 8),
-    (1224982800, 9), (1238288400, 8), (1256432400, 9), (1269738000, 8), (1288486800, 9),
-    (1301274000, 8), (1319936400, 9), (1332637200, 8), (1351386000, 9), (1364691600, 8),
-    (1382835600, 9), (1396227600, 8), (1414285200, 9), (1427590800, 8), (1446944400, 9),
-    (1459040400, 8), (1473195600, 4),
-]);
+/// `Asia/Istanbul`, the same as [`Europe/Istanbul`](crate::europe::ISTANBUL).
+pub const ISTANBUL: TimeZoneRef<'static> = crate::europe::ISTANBUL;
 
 /// `Asia/Jakarta`: 8 transitions, then `WIB-7`.
 pub const JAKARTA: TimeZoneRef<'static> = zone(&JAKARTA_TABLE, &JAKARTA_TYPES, &rules::WIB_MINUS_7);
@@ -891,16 +819,8 @@ static KARACHI_TABLE: [Transition; 11] = table([
     (1257012000, 5),
 ]);
 
-/// `Asia/Kashgar`: 1 transition, then `<+06>-6`.
-pub const KASHGAR: TimeZoneRef<'static> = zone(
-    &KASHGAR_TABLE, &KASHGAR_TYPES, &rules::PLUS_06_MINUS_6,
-);
-static KASHGAR_TYPES: [LocalTimeType; 2] = [
-    local(21020, false, "LMT"), local(21600, false, "+06"),
-];
-static KASHGAR_TABLE: [Transition; 1] = table([
-    (-1325483420, 1),
-]);
+/// `Asia/Kashgar`, the same as [`Asia/Urumqi`](crate::asia::URUMQI).
+pub const KASHGAR: TimeZoneRef<'static> = crate::asia::URUMQI;
 
 /// `Asia/Kathmandu`: 2 transitions, then `<+0545>-5:45`.
 pub const KATHMANDU: TimeZoneRef<'static> = zone(
@@ -943,8 +863,18 @@ static KHANDYGA_TABLE: [Transition; 67] = table([
     (1414252800, 4),
 ]);
 
-/// `Asia/Kolkata`, the same as [`Asia/Calcutta`](crate::asia::CALCUTTA).
-pub const KOLKATA: TimeZoneRef<'static> = crate::asia::CALCUTTA;
+/// `Asia/Kolkata`: 7 transitions, then `IST-5:30`.
+pub const KOLKATA: TimeZoneRef<'static> = zone(
+    &KOLKATA_TABLE, &KOLKATA_TYPES, &rules::IST_MINUS_5_30,
+);
+static KOLKATA_TYPES: [LocalTimeType; 5] = [
+    local(21208, false, "LMT"), local(21200, false, "HMT"), local(19270, false, "MMT"),
+    local(19800, false, "IST"), local(23400, true, "+0630"),
+];
+static KOLKATA_TABLE: [Transition; 7] = table([
+    (-3645237208, 1), (-3155694800, 2), (-2019705670, 3), (-891581400, 4), (-872058600, 3),
+    (-862637400, 4), (-764145000, 3),
+]);
 
 /// `Asia/Krasnoyarsk`: 65 transitions, then `<+07>-7`.
 pub const KRASNOYARSK: TimeZoneRef<'static> = zone(
@@ -1011,14 +941,17 @@ static KUWAIT_TABLE: [Transition; 1] = table([
     (-631163516, 1),
 ]);
 
-/// `Asia/Macao`: 71 transitions, then `CST-8`.
-pub const MACAO: TimeZoneRef<'static> = zone(&MACAO_TABLE, &MACAO_TYPES, &rules::CST_MINUS_8);
-static MACAO_TYPES: [LocalTimeType; 7] = [
+/// `Asia/Macao`, the same as [`Asia/Macau`](crate::asia::MACAU).
+pub const MACAO: TimeZoneRef<'static> = crate::asia::MACAU;
+
+/// `Asia/Macau`: 71 transitions, then `CST-8`.
+pub const MACAU: TimeZoneRef<'static> = zone(&MACAU_TABLE, &MACAU_TYPES, &rules::CST_MINUS_8);
+static MACAU_TYPES: [LocalTimeType; 7] = [
     local(27250, false, "LMT"), local(28800, false, "CST"), local(36000, true, "+10"),
     local(32400, false, "+09"), local(32400, true, "CDT"), local(28800, false, "CST"),
     local(32400, true, "CDT"),
 ];
-static MACAO_TABLE: [Transition; 71] = table([
+static MACAU_TABLE: [Transition; 71] = table([
     (-2056692850, 1), (-884509200, 3), (-873280800, 2), (-855918000, 3), (-841744800, 2),
     (-828529200, 3), (-765363600, 1), (-747046800, 4), (-733827600, 5), (-716461200, 4),
     (-697021200, 5), (-683715600, 4), (-667990800, 5), (-654771600, 4), (-636627600, 5),
@@ -1034,9 +967,6 @@ static MACAO_TABLE: [Transition; 71] = table([
     (119989800, 1), (126041400, 6), (151439400, 1), (167167800, 6), (182889000, 1), (198617400, 6),
     (214338600, 1), (295385400, 6), (309292200, 1),
 ]);
-
-/// `Asia/Macau`, the same as [`Asia/Macao`](crate::asia::MACAO).
-pub const MACAU: TimeZoneRef<'static> = crate::asia::MACAO;
 
 /// `Asia/Magadan`: 66 transitions, then `<+11>-11`.
 pub const MAGADAN: TimeZoneRef<'static> = zone(
@@ -1305,17 +1235,8 @@ static QYZYLORDA_TABLE: [Transition; 52] = table([
     (1545328800, 2),
 ]);
 
-/// `Asia/Rangoon`: 4 transitions, then `<+0630>-6:30`.
-pub const RANGOON: TimeZoneRef<'static> = zone(
-    &RANGOON_TABLE, &RANGOON_TYPES, &rules::PLUS_0630_MINUS_6_30,
-);
-static RANGOON_TYPES: [LocalTimeType; 5] = [
-    local(23087, false, "LMT"), local(23087, false, "RMT"), local(23400, false, "+0630"),
-    local(32400, false, "+09"), local(23400, false, "+0630"),
-];
-static RANGOON_TABLE: [Transition; 4] = table([
-    (-2840163887, 1), (-1577946287, 2), (-873268200, 3), (-778410000, 2),
-]);
+/// `Asia/Rangoon`, the same as [`Asia/Yangon`](crate::asia::YANGON).
+pub const RANGOON: TimeZoneRef<'static> = crate::asia::YANGON;
 
 /// `Asia/Riyadh`: 1 transition, then `<+03>-3`.
 pub const RIYADH: TimeZoneRef<'static> = zone(
@@ -1388,8 +1309,21 @@ static SEOUL_TABLE: [Transition; 29] = table([
     (547578000, 3), (560883600, 4), (579027600, 3), (592333200, 4),
 ]);
 
-/// `Asia/Shanghai`, the same as [`Asia/Chongqing`](crate::asia::CHONGQING).
-pub const SHANGHAI: TimeZoneRef<'static> = crate::asia::CHONGQING;
+/// `Asia/Shanghai`: 29 transitions, then `CST-8`.
+pub const SHANGHAI: TimeZoneRef<'static> = zone(
+    &SHANGHAI_TABLE, &SHANGHAI_TYPES, &rules::CST_MINUS_8,
+);
+static SHANGHAI_TYPES: [LocalTimeType; 3] = [
+    local(29143, false, "LMT"), local(32400, true, "CDT"), local(28800, false, "CST"),
+];
+static SHANGHAI_TABLE: [Transition; 29] = table([
+    (-2177481943, 2), (-1600675200, 1), (-1585904400, 2), (-933667200, 1), (-922093200, 2),
+    (-908870400, 1), (-888829200, 2), (-881049600, 1), (-767869200, 2), (-745833600, 1),
+    (-733827600, 2), (-716889600, 1), (-699613200, 2), (-683884800, 1), (-670669200, 2),
+    (-652348800, 1), (-650019600, 2), (515527200, 1), (527014800, 2), (545162400, 1),
+    (558464400, 2), (577216800, 1), (589914000, 2), (608666400, 1), (621968400, 2), (640116000, 1),
+    (653418000, 2), (671565600, 1), (684867600, 2),
+]);
 
 /// `Asia/Singapore`: 8 transitions, then `<+08>-8`.
 pub const SINGAPORE: TimeZoneRef<'static> = zone(
@@ -1516,19 +1450,19 @@ static TEHRAN_TABLE: [Transition; 71] = table([
 /// `Asia/Tel_Aviv`, the same as [`Asia/Jerusalem`](crate::asia::JERUSALEM).
 pub const TEL_AVIV: TimeZoneRef<'static> = crate::asia::JERUSALEM;
 
-/// `Asia/Thimbu`: 2 transitions, then `<+06>-6`.
-pub const THIMBU: TimeZoneRef<'static> = zone(
-    &THIMBU_TABLE, &THIMBU_TYPES, &rules::PLUS_06_MINUS_6,
+/// `Asia/Thimbu`, the same as [`Asia/Thimphu`](crate::asia::THIMPHU).
+pub const THIMBU: TimeZoneRef<'static> = crate::asia::THIMPHU;
+
+/// `Asia/Thimphu`: 2 transitions, then `<+06>-6`.
+pub const THIMPHU: TimeZoneRef<'static> = zone(
+    &THIMPHU_TABLE, &THIMPHU_TYPES, &rules::PLUS_06_MINUS_6,
 );
-static THIMBU_TYPES: [LocalTimeType; 3] = [
+static THIMPHU_TYPES: [LocalTimeType; 3] = [
     local(21516, false, "LMT"), local(19800, false, "+0530"), local(21600, false, "+06"),
 ];
-static THIMBU_TABLE: [Transition; 2] = table([
+static THIMPHU_TABLE: [Transition; 2] = table([
     (-706341516, 1), (560025000, 2),
 ]);
-
-/// `Asia/Thimphu`, the same as [`Asia/Thimbu`](crate::asia::THIMBU).
-pub const THIMPHU: TimeZoneRef<'static> = crate::asia::THIMBU;
 
 /// `Asia/Tokyo`: 9 transitions, then `JST-9`.
 pub const TOKYO: TimeZoneRef<'static> = zone(&TOKYO_TABLE, &TOKYO_TYPES, &rules::JST_MINUS_9);
@@ -1568,14 +1502,39 @@ static TOMSK_TABLE: [Transition; 67] = table([
 /// `Asia/Ujung_Pandang`, the same as [`Asia/Makassar`](crate::asia::MAKASSAR).
 pub const UJUNG_PANDANG: TimeZoneRef<'static> = crate::asia::MAKASSAR;
 
-/// `Asia/Ulaanbaatar`, the same as [`Asia/Choibalsan`](crate::asia::CHOIBALSAN).
-pub const ULAANBAATAR: TimeZoneRef<'static> = crate::asia::CHOIBALSAN;
+/// `Asia/Ulaanbaatar`: 50 transitions, then `<+08>-8`.
+pub const ULAANBAATAR: TimeZoneRef<'static> = zone(
+    &ULAANBAATAR_TABLE, &ULAANBAATAR_TYPES, &rules::PLUS_08_MINUS_8,
+);
+static ULAANBAATAR_TYPES: [LocalTimeType; 4] = [
+    local(25652, false, "LMT"), local(25200, false, "+07"), local(32400, true, "+09"),
+    local(28800, false, "+08"),
+];
+static ULAANBAATAR_TABLE: [Transition; 50] = table([
+    (-2032931252, 1), (252435600, 3), (417974400, 2), (433782000, 3), (449596800, 2),
+    (465318000, 3), (481046400, 2), (496767600, 3), (512496000, 2), (528217200, 3), (543945600, 2),
+    (559666800, 3), (575395200, 2), (591116400, 3), (606844800, 2), (622566000, 3), (638294400, 2),
+    (654620400, 3), (670348800, 2), (686070000, 3), (701798400, 2), (717519600, 3), (733248000, 2),
+    (748969200, 3), (764697600, 2), (780418800, 3), (796147200, 2), (811868400, 3), (828201600, 2),
+    (843922800, 3), (859651200, 2), (875372400, 3), (891100800, 2), (906822000, 3), (988394400, 2),
+    (1001696400, 3), (1017424800, 2), (1033146000, 3), (1048874400, 2), (1064595600, 3),
+    (1080324000, 2), (1096045200, 3), (1111773600, 2), (1127494800, 3), (1143223200, 2),
+    (1159549200, 3), (1427479200, 2), (1443193200, 3), (1458928800, 2), (1474642800, 3),
+]);
 
-/// `Asia/Ulan_Bator`, the same as [`Asia/Choibalsan`](crate::asia::CHOIBALSAN).
-pub const ULAN_BATOR: TimeZoneRef<'static> = crate::asia::CHOIBALSAN;
+/// `Asia/Ulan_Bator`, the same as [`Asia/Ulaanbaatar`](crate::asia::ULAANBAATAR).
+pub const ULAN_BATOR: TimeZoneRef<'static> = crate::asia::ULAANBAATAR;
 
-/// `Asia/Urumqi`, the same as [`Asia/Kashgar`](crate::asia::KASHGAR).
-pub const URUMQI: TimeZoneRef<'static> = crate::asia::KASHGAR;
+/// `Asia/Urumqi`: 1 transition, then `<+06>-6`.
+pub const URUMQI: TimeZoneRef<'static> = zone(
+    &URUMQI_TABLE, &URUMQI_TYPES, &rules::PLUS_06_MINUS_6,
+);
+static URUMQI_TYPES: [LocalTimeType; 2] = [
+    local(21020, false, "LMT"), local(21600, false, "+06"),
+];
+static URUMQI_TABLE: [Transition; 1] = table([
+    (-1325483420, 1),
+]);
 
 /// `Asia/Ust-Nera`: 66 transitions, then `<+10>-10`.
 pub const UST_NERA: TimeZoneRef<'static> = zone(
@@ -1665,8 +1624,17 @@ static YAKUTSK_TABLE: [Transition; 65] = table([
     (1269709200, 5), (1288458000, 4), (1301158800, 8), (1414252800, 4),
 ]);
 
-/// `Asia/Yangon`, the same as [`Asia/Rangoon`](crate::asia::RANGOON).
-pub const YANGON: TimeZoneRef<'static> = crate::asia::RANGOON;
+/// `Asia/Yangon`: 4 transitions, then `<+0630>-6:30`.
+pub const YANGON: TimeZoneRef<'static> = zone(
+    &YANGON_TABLE, &YANGON_TYPES, &rules::PLUS_0630_MINUS_6_30,
+);
+static YANGON_TYPES: [LocalTimeType; 5] = [
+    local(23087, false, "LMT"), local(23087, false, "RMT"), local(23400, false, "+0630"),
+    local(32400, false, "+09"), local(23400, false, "+0630"),
+];
+static YANGON_TABLE: [Transition; 4] = table([
+    (-2840163887, 1), (-1577946287, 2), (-873268200, 3), (-778410000, 2),
+]);
 
 /// `Asia/Yekaterinburg`: 66 transitions, then `<+05>-5`.
 pub const YEKATERINBURG: TimeZoneRef<'static> = zone(

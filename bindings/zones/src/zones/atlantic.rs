@@ -106,15 +106,18 @@ static CAPE_VERDE_TABLE: [Transition; 4] = table([
     (-1830376800, 1), (-862610400, 2), (-764118000, 3), (186120000, 4),
 ]);
 
-/// `Atlantic/Faeroe`: 32 transitions, then `WET0WEST,M3.5.0/1,M10.5.0`.
-pub const FAEROE: TimeZoneRef<'static> = zone(
-    &FAEROE_TABLE, &FAEROE_TYPES, &rules::WET0WEST_M3_5_0_AT_1_M10_5_0,
+/// `Atlantic/Faeroe`, the same as [`Atlantic/Faroe`](crate::atlantic::FAROE).
+pub const FAEROE: TimeZoneRef<'static> = crate::atlantic::FAROE;
+
+/// `Atlantic/Faroe`: 32 transitions, then `WET0WEST,M3.5.0/1,M10.5.0`.
+pub const FAROE: TimeZoneRef<'static> = zone(
+    &FAROE_TABLE, &FAROE_TYPES, &rules::WET0WEST_M3_5_0_AT_1_M10_5_0,
 );
-static FAEROE_TYPES: [LocalTimeType; 4] = [
+static FAROE_TYPES: [LocalTimeType; 4] = [
     local(-1624, false, "LMT"), local(0, false, "WET"), local(3600, true, "WEST"),
     local(0, false, "WET"),
 ];
-static FAEROE_TABLE: [Transition; 32] = table([
+static FAROE_TABLE: [Transition; 32] = table([
     (-1955748776, 1), (354675600, 2), (370400400, 3), (386125200, 2), (401850000, 3),
     (417574800, 2), (433299600, 3), (449024400, 2), (465354000, 3), (481078800, 2), (496803600, 3),
     (512528400, 2), (528253200, 3), (543978000, 2), (559702800, 3), (575427600, 2), (591152400, 3),
@@ -123,11 +126,8 @@ static FAEROE_TABLE: [Transition; 32] = table([
     (796179600, 2), (811904400, 3), (828234000, 2),
 ]);
 
-/// `Atlantic/Faroe`, the same as [`Atlantic/Faeroe`](crate::atlantic::FAEROE).
-pub const FAROE: TimeZoneRef<'static> = crate::atlantic::FAEROE;
-
-/// `Atlantic/Jan_Mayen`, the same as [`Arctic/Longyearbyen`](crate::arctic::LONGYEARBYEN).
-pub const JAN_MAYEN: TimeZoneRef<'static> = crate::arctic::LONGYEARBYEN;
+/// `Atlantic/Jan_Mayen`, the same as [`Europe/Berlin`](crate::europe::BERLIN).
+pub const JAN_MAYEN: TimeZoneRef<'static> = crate::europe::BERLIN;
 
 /// `Atlantic/Madeira`: 131 transitions, then `WET0WEST,M3.5.0/1,M10.5.0`.
 pub const MADEIRA: TimeZoneRef<'static> = zone(

@@ -4,8 +4,8 @@
 
 use tz::TimeZoneRef;
 
-/// `Brazil/Acre`, the same as [`America/Porto_Acre`](crate::america::PORTO_ACRE).
-pub const ACRE: TimeZoneRef<'static> = crate::america::PORTO_ACRE;
+/// `Brazil/Acre`, the same as [`America/Rio_Branco`](crate::america::RIO_BRANCO).
+pub const ACRE: TimeZoneRef<'static> = crate::america::RIO_BRANCO;
 
 /// `Brazil/DeNoronha`, the same as [`America/Noronha`](crate::america::NORONHA).
 pub const DENORONHA: TimeZoneRef<'static> = crate::america::NORONHA;

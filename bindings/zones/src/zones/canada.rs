@@ -7,11 +7,11 @@ use tz::TimeZoneRef;
 /// `Canada/Atlantic`, the same as [`America/Halifax`](crate::america::HALIFAX).
 pub const ATLANTIC: TimeZoneRef<'static> = crate::america::HALIFAX;
 
-/// `Canada/Central`, the same as [`America/Rainy_River`](crate::america::RAINY_RIVER).
-pub const CENTRAL: TimeZoneRef<'static> = crate::america::RAINY_RIVER;
+/// `Canada/Central`, the same as [`America/Winnipeg`](crate::america::WINNIPEG).
+pub const CENTRAL: TimeZoneRef<'static> = crate::america::WINNIPEG;
 
-/// `Canada/Eastern`, the same as [`America/Montreal`](crate::america::MONTREAL).
-pub const EASTERN: TimeZoneRef<'static> = crate::america::MONTREAL;
+/// `Canada/Eastern`, the same as [`America/Toronto`](crate::america::TORONTO).
+pub const EASTERN: TimeZoneRef<'static> = crate::america::TORONTO;
 
 /// `Canada/Mountain`, the same as [`America/Edmonton`](crate::america::EDMONTON).
 pub const MOUNTAIN: TimeZoneRef<'static> = crate::america::EDMONTON;

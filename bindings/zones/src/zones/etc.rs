@@ -208,17 +208,17 @@ pub const GMT0: TimeZoneRef<'static> = crate::etc::GMT;
 /// `Etc/Greenwich`, the same as [`Etc/GMT`](crate::etc::GMT).
 pub const GREENWICH: TimeZoneRef<'static> = crate::etc::GMT;
 
-/// `Etc/UCT`: no transitions, then `UTC0`.
-pub const UCT: TimeZoneRef<'static> = zone(&[], &UCT_TYPES, &rules::UTC0);
-static UCT_TYPES: [LocalTimeType; 1] = [
+/// `Etc/UCT`, the same as [`Etc/UTC`](crate::etc::UTC).
+pub const UCT: TimeZoneRef<'static> = crate::etc::UTC;
+
+/// `Etc/UTC`: no transitions, then `UTC0`.
+pub const UTC: TimeZoneRef<'static> = zone(&[], &UTC_TYPES, &rules::UTC0);
+static UTC_TYPES: [LocalTimeType; 1] = [
     local(0, false, "UTC"),
 ];
 
-/// `Etc/UTC`, the same as [`Etc/UCT`](crate::etc::UCT).
-pub const UTC: TimeZoneRef<'static> = crate::etc::UCT;
+/// `Etc/Universal`, the same as [`Etc/UTC`](crate::etc::UTC).
+pub const UNIVERSAL: TimeZoneRef<'static> = crate::etc::UTC;
 
-/// `Etc/Universal`, the same as [`Etc/UCT`](crate::etc::UCT).
-pub const UNIVERSAL: TimeZoneRef<'static> = crate::etc::UCT;
-
-/// `Etc/Zulu`, the same as [`Etc/UCT`](crate::etc::UCT).
-pub const ZULU: TimeZoneRef<'static> = crate::etc::UCT;
+/// `Etc/Zulu`, the same as [`Etc/UTC`](crate::etc::UTC).
+pub const ZULU: TimeZoneRef<'static> = crate::etc::UTC;

@@ -4,8 +4,8 @@
 
 use tz::TimeZoneRef;
 
-/// `Mexico/BajaNorte`, the same as [`America/Ensenada`](crate::america::ENSENADA).
-pub const BAJANORTE: TimeZoneRef<'static> = crate::america::ENSENADA;
+/// `Mexico/BajaNorte`, the same as [`America/Tijuana`](crate::america::TIJUANA).
+pub const BAJANORTE: TimeZoneRef<'static> = crate::america::TIJUANA;
 
 /// `Mexico/BajaSur`, the same as [`America/Mazatlan`](crate::america::MAZATLAN).
 pub const BAJASUR: TimeZoneRef<'static> = crate::america::MAZATLAN;

@@ -138,11 +138,11 @@ static FACTORY_TYPES: [LocalTimeType; 1] = [
     local(0, false, "-00"),
 ];
 
-/// `GB`, the same as [`Europe/Belfast`](crate::europe::BELFAST).
-pub const GB: TimeZoneRef<'static> = crate::europe::BELFAST;
+/// `GB`, the same as [`Europe/London`](crate::europe::LONDON).
+pub const GB: TimeZoneRef<'static> = crate::europe::LONDON;
 
-/// `GB-Eire`, the same as [`Europe/Belfast`](crate::europe::BELFAST).
-pub const GB_EIRE: TimeZoneRef<'static> = crate::europe::BELFAST;
+/// `GB-Eire`, the same as [`Europe/London`](crate::europe::LONDON).
+pub const GB_EIRE: TimeZoneRef<'static> = crate::europe::LONDON;
 
 /// `GMT`, the same as [`Etc/GMT`](crate::etc::GMT).
 pub const GMT: TimeZoneRef<'static> = crate::etc::GMT;
@@ -231,8 +231,8 @@ static MST7MDT_TABLE: [Transition; 88] = table([
     (1162108800, 0), (1173603600, 1),
 ]);
 
-/// `NZ`, the same as [`Antarctica/South_Pole`](crate::antarctica::SOUTH_POLE).
-pub const NZ: TimeZoneRef<'static> = crate::antarctica::SOUTH_POLE;
+/// `NZ`, the same as [`Pacific/Auckland`](crate::pacific::AUCKLAND).
+pub const NZ: TimeZoneRef<'static> = crate::pacific::AUCKLAND;
 
 /// `NZ-CHAT`, the same as [`Pacific/Chatham`](crate::pacific::CHATHAM).
 pub const NZ_CHAT: TimeZoneRef<'static> = crate::pacific::CHATHAM;
@@ -240,8 +240,8 @@ pub const NZ_CHAT: TimeZoneRef<'static> = crate::pacific::CHATHAM;
 /// `Navajo`, the same as [`America/Denver`](crate::america::DENVER).
 pub const NAVAJO: TimeZoneRef<'static> = crate::america::DENVER;
 
-/// `PRC`, the same as [`Asia/Chongqing`](crate::asia::CHONGQING).
-pub const PRC: TimeZoneRef<'static> = crate::asia::CHONGQING;
+/// `PRC`, the same as [`Asia/Shanghai`](crate::asia::SHANGHAI).
+pub const PRC: TimeZoneRef<'static> = crate::asia::SHANGHAI;
 
 /// `PST8PDT`: 88 transitions, then `PST8PDT,M3.2.0,M11.1.0`.
 pub const PST8PDT: TimeZoneRef<'static> = zone(
@@ -285,17 +285,17 @@ pub const ROK: TimeZoneRef<'static> = crate::asia::SEOUL;
 /// `Singapore`, the same as [`Asia/Singapore`](crate::asia::SINGAPORE).
 pub const SINGAPORE: TimeZoneRef<'static> = crate::asia::SINGAPORE;
 
-/// `Turkey`, the same as [`Asia/Istanbul`](crate::asia::ISTANBUL).
-pub const TURKEY: TimeZoneRef<'static> = crate::asia::ISTANBUL;
+/// `Turkey`, the same as [`Europe/Istanbul`](crate::europe::ISTANBUL).
+pub const TURKEY: TimeZoneRef<'static> = crate::europe::ISTANBUL;
 
-/// `UCT`, the same as [`Etc/UCT`](crate::etc::UCT).
-pub const UCT: TimeZoneRef<'static> = crate::etc::UCT;
+/// `UCT`, the same as [`Etc/UTC`](crate::etc::UTC).
+pub const UCT: TimeZoneRef<'static> = crate::etc::UTC;
 
-/// `UTC`, the same as [`Etc/UCT`](crate::etc::UCT).
-pub const UTC: TimeZoneRef<'static> = crate::etc::UCT;
+/// `UTC`, the same as [`Etc/UTC`](crate::etc::UTC).
+pub const UTC: TimeZoneRef<'static> = crate::etc::UTC;
 
-/// `Universal`, the same as [`Etc/UCT`](crate::etc::UCT).
-pub const UNIVERSAL: TimeZoneRef<'static> = crate::etc::UCT;
+/// `Universal`, the same as [`Etc/UTC`](crate::etc::UTC).
+pub const UNIVERSAL: TimeZoneRef<'static> = crate::etc::UTC;
 
 /// `W-SU`, the same as [`Europe/Moscow`](crate::europe::MOSCOW).
 pub const W_SU: TimeZoneRef<'static> = crate::europe::MOSCOW;
@@ -309,5 +309,5 @@ static WET_TYPES: [LocalTimeType; 4] = [
     local(0, false, "WET"),
 ];
 
-/// `Zulu`, the same as [`Etc/UCT`](crate::etc::UCT).
-pub const ZULU: TimeZoneRef<'static> = crate::etc::UCT;
+/// `Zulu`, the same as [`Etc/UTC`](crate::etc::UTC).
+pub const ZULU: TimeZoneRef<'static> = crate::etc::UTC;

@@ -23,8 +23,35 @@ static APIA_TABLE: [Transition; 26] = table([
     (1617458400, 5),
 ]);
 
-/// `Pacific/Auckland`, the same as [`Antarctica/South_Pole`](crate::antarctica::SOUTH_POLE).
-pub const AUCKLAND: TimeZoneRef<'static> = crate::antarctica::SOUTH_POLE;
+/// `Pacific/Auckland`: 96 transitions, then `NZST-12NZDT,M9.5.0,M4.1.0/3`.
+pub const AUCKLAND: TimeZoneRef<'static> = zone(
+    &AUCKLAND_TABLE, &AUCKLAND_TYPES, &rules::NZST_MINUS_12NZDT_M9_5_0_M4_1_0_AT_3,
+);
+static AUCKLAND_TYPES: [LocalTimeType; 7] = [
+    local(41944, false, "LMT"), local(45000, true, "NZST"), local(41400, false, "NZMT"),
+    local(43200, true, "NZST"), local(46800, true, "NZDT"), local(43200, false, "NZST"),
+    local(43200, false, "NZST"),
+];
+static AUCKLAND_TABLE: [Transition; 96] = table([
+    (-3192435544, 2), (-1330335000, 1), (-1320057000, 2), (-1300699800, 3), (-1287396000, 2),
+    (-1269250200, 3), (-1255946400, 2), (-1237800600, 3), (-1224496800, 2), (-1206351000, 3),
+    (-1192442400, 2), (-1174901400, 3), (-1160992800, 2), (-1143451800, 3), (-1125914400, 2),
+    (-1112607000, 3), (-1094464800, 2), (-1081157400, 3), (-1063015200, 2), (-1049707800, 3),
+    (-1031565600, 2), (-1018258200, 3), (-1000116000, 2), (-986808600, 3), (-968061600, 2),
+    (-955359000, 3), (-936612000, 2), (-923304600, 3), (-757425600, 6), (152632800, 4),
+    (162309600, 5), (183477600, 4), (194968800, 5), (215532000, 4), (226418400, 5), (246981600, 4),
+    (257868000, 5), (278431200, 4), (289317600, 5), (309880800, 4), (320767200, 5), (341330400, 4),
+    (352216800, 5), (372780000, 4), (384271200, 5), (404834400, 4), (415720800, 5), (436284000, 4),
+    (447170400, 5), (467733600, 4), (478620000, 5), (499183200, 4), (510069600, 5), (530632800, 4),
+    (541519200, 5), (562082400, 4), (573573600, 5), (594136800, 4), (605023200, 5), (623772000, 4),
+    (637682400, 5), (655221600, 4), (669132000, 5), (686671200, 4), (700581600, 5), (718120800, 4),
+    (732636000, 5), (749570400, 4), (764085600, 5), (781020000, 4), (795535200, 5), (812469600, 4),
+    (826984800, 5), (844524000, 4), (858434400, 5), (875973600, 4), (889884000, 5), (907423200, 4),
+    (921938400, 5), (938872800, 4), (953388000, 5), (970322400, 4), (984837600, 5), (1002376800, 4),
+    (1016287200, 5), (1033826400, 4), (1047736800, 5), (1065276000, 4), (1079791200, 5),
+    (1096725600, 4), (1111240800, 5), (1128175200, 4), (1142690400, 5), (1159624800, 4),
+    (1174140000, 5), (1191074400, 4),
+]);
 
 /// `Pacific/Bougainville`: 5 transitions, then `<+11>-11`.
 pub const BOUGAINVILLE: TimeZoneRef<'static> = zone(
@@ -74,8 +101,37 @@ static CHUUK_TABLE: [Transition; 6] = table([
     (-770634000, 2),
 ]);
 
-/// `Pacific/Easter`, the same as [`Chile/EasterIsland`](crate::chile::EASTERISLAND).
-pub const EASTER: TimeZoneRef<'static> = crate::chile::EASTERISLAND;
+/// `Pacific/Easter`: 109 transitions, then `<-06>6<-05>,M9.1.6/22,M4.1.6/22`.
+pub const EASTER: TimeZoneRef<'static> = zone(
+    &EASTER_TABLE, &EASTER_TYPES, &rules::MINUS_06_6_MINUS_05_M9_1_6_AT_22_M4_1_6_AT_22,
+);
+static EASTER_TYPES: [LocalTimeType; 7] = [
+    local(-26248, false, "LMT"), local(-26248, false, "EMT"), local(-21600, true, "-06"),
+    local(-25200, false, "-07"), local(-25200, false, "-07"), local(-21600, false, "-06"),
+    local(-18000, true, "-05"),
+];
+static EASTER_TABLE: [Transition; 109] = table([
+    (-2524495352, 1), (-1178124152, 4), (-36619200, 2), (-23922000, 3), (-3355200, 2), (7527600, 3),
+    (24465600, 2), (37767600, 3), (55915200, 2), (69217200, 3), (87969600, 2), (100666800, 3),
+    (118209600, 2), (132116400, 3), (150868800, 2), (163566000, 3), (182318400, 2), (195620400, 3),
+    (213768000, 2), (227070000, 3), (245217600, 2), (258519600, 3), (277272000, 2), (289969200, 3),
+    (308721600, 2), (321418800, 3), (340171200, 2), (353473200, 3), (371620800, 2), (384922800, 5),
+    (403070400, 6), (416372400, 5), (434520000, 6), (447822000, 5), (466574400, 6), (479271600, 5),
+    (498024000, 6), (510721200, 5), (529473600, 6), (545194800, 5), (560923200, 6), (574225200, 5),
+    (592372800, 6), (605674800, 5), (624427200, 6), (637124400, 5), (653457600, 6), (668574000, 5),
+    (687326400, 6), (700628400, 5), (718776000, 6), (732078000, 5), (750225600, 6), (763527600, 5),
+    (781675200, 6), (794977200, 5), (813729600, 6), (826426800, 5), (845179200, 6), (859690800, 5),
+    (876628800, 6), (889930800, 5), (906868800, 6), (923194800, 5), (939528000, 6), (952830000, 5),
+    (971582400, 6), (984279600, 5), (1003032000, 6), (1015729200, 5), (1034481600, 6),
+    (1047178800, 5), (1065931200, 6), (1079233200, 5), (1097380800, 6), (1110682800, 5),
+    (1128830400, 6), (1142132400, 5), (1160884800, 6), (1173582000, 5), (1192334400, 6),
+    (1206846000, 5), (1223784000, 6), (1237086000, 5), (1255233600, 6), (1270350000, 5),
+    (1286683200, 6), (1304823600, 5), (1313899200, 6), (1335668400, 5), (1346558400, 6),
+    (1367118000, 5), (1378612800, 6), (1398567600, 5), (1410062400, 6), (1463281200, 5),
+    (1471147200, 6), (1494730800, 5), (1502596800, 6), (1526180400, 5), (1534046400, 6),
+    (1554606000, 5), (1567915200, 6), (1586055600, 5), (1599364800, 6), (1617505200, 5),
+    (1630814400, 6), (1648954800, 5), (1662868800, 6),
+]);
 
 /// `Pacific/Efate`: 23 transitions, then `<+11>-11`.
 pub const EFATE: TimeZoneRef<'static> = zone(&EFATE_TABLE, &EFATE_TYPES, &rules::PLUS_11_MINUS_11);
@@ -90,17 +146,8 @@ static EFATE_TABLE: [Transition; 23] = table([
     (654008400, 3), (669729600, 4), (686062800, 3), (696340800, 4), (719931600, 3), (727790400, 4),
 ]);
 
-/// `Pacific/Enderbury`: 3 transitions, then `<+13>-13`.
-pub const ENDERBURY: TimeZoneRef<'static> = zone(
-    &ENDERBURY_TABLE, &ENDERBURY_TYPES, &rules::PLUS_13_MINUS_13,
-);
-static ENDERBURY_TYPES: [LocalTimeType; 4] = [
-    local(0, false, "-00"), local(-43200, false, "-12"), local(-39600, false, "-11"),
-    local(46800, false, "+13"),
-];
-static ENDERBURY_TABLE: [Transition; 3] = table([
-    (-1020470400, 1), (307627200, 2), (788871600, 3),
-]);
+/// `Pacific/Enderbury`, the same as [`Pacific/Kanton`](crate::pacific::KANTON).
+pub const ENDERBURY: TimeZoneRef<'static> = crate::pacific::KANTON;
 
 /// `Pacific/Fakaofo`: 2 transitions, then `<+13>-13`.
 pub const FAKAOFO: TimeZoneRef<'static> = zone(
@@ -197,8 +244,17 @@ static HONOLULU_TABLE: [Transition; 7] = table([
 /// `Pacific/Johnston`, the same as [`Pacific/Honolulu`](crate::pacific::HONOLULU).
 pub const JOHNSTON: TimeZoneRef<'static> = crate::pacific::HONOLULU;
 
-/// `Pacific/Kanton`, the same as [`Pacific/Enderbury`](crate::pacific::ENDERBURY).
-pub const KANTON: TimeZoneRef<'static> = crate::pacific::ENDERBURY;
+/// `Pacific/Kanton`: 3 transitions, then `<+13>-13`.
+pub const KANTON: TimeZoneRef<'static> = zone(
+    &KANTON_TABLE, &KANTON_TYPES, &rules::PLUS_13_MINUS_13,
+);
+static KANTON_TYPES: [LocalTimeType; 4] = [
+    local(0, false, "-00"), local(-43200, false, "-12"), local(-39600, false, "-11"),
+    local(46800, false, "+13"),
+];
+static KANTON_TABLE: [Transition; 3] = table([
+    (-1020470400, 1), (307627200, 2), (788871600, 3),
+]);
 
 /// `Pacific/Kiritimati`: 3 transitions, then `<+14>-14`.
 pub const KIRITIMATI: TimeZoneRef<'static> = zone(

@@ -16,8 +16,9 @@ pub const ARIZONA: TimeZoneRef<'static> = crate::america::PHOENIX;
 /// `US/Central`, the same as [`America/Chicago`](crate::america::CHICAGO).
 pub const CENTRAL: TimeZoneRef<'static> = crate::america::CHICAGO;
 
-/// `US/East-Indiana`, the same as [`America/Fort_Wayne`](crate::america::FORT_WAYNE).
-pub const EAST_INDIANA: TimeZoneRef<'static> = crate::america::FORT_WAYNE;
+/// `US/East-Indiana`, the same as
+/// [`America/Indiana/Indianapolis`](crate::america::indiana::INDIANAPOLIS).
+pub const EAST_INDIANA: TimeZoneRef<'static> = crate::america::indiana::INDIANAPOLIS;
 
 /// `US/Eastern`, the same as [`America/New_York`](crate::america::NEW_YORK).
 pub const EASTERN: TimeZoneRef<'static> = crate::america::NEW_YORK;

@@ -7,8 +7,25 @@ use crate::zones::rules;
 use tz::timezone::Transition;
 use tz::{LocalTimeType, TimeZoneRef};
 
-/// `America/Indiana/Indianapolis`, the same as [`America/Fort_Wayne`](crate::america::FORT_WAYNE).
-pub const INDIANAPOLIS: TimeZoneRef<'static> = crate::america::FORT_WAYNE;
+/// `America/Indiana/Indianapolis`: 38 transitions, then `EST5EDT,M3.2.0,M11.1.0`.
+pub const INDIANAPOLIS: TimeZoneRef<'static> = zone(
+    &INDIANAPOLIS_TABLE, &INDIANAPOLIS_TYPES, &rules::EST5EDT_M3_2_0_M11_1_0,
+);
+static INDIANAPOLIS_TYPES: [LocalTimeType; 8] = [
+    local(-20678, false, "LMT"), local(-18000, true, "CDT"), local(-21600, false, "CST"),
+    local(-21600, false, "CST"), local(-18000, true, "CWT"), local(-18000, true, "CPT"),
+    local(-18000, false, "EST"), local(-14400, true, "EDT"),
+];
+static INDIANAPOLIS_TABLE: [Transition; 38] = table([
+    (-2717647200, 3), (-1633276800, 1), (-1615136400, 2), (-1601827200, 1), (-1583686800, 2),
+    (-900259200, 1), (-891795600, 2), (-880214400, 4), (-769395600, 5), (-765392400, 2),
+    (-747244800, 1), (-733942800, 2), (-715795200, 1), (-702493200, 2), (-684345600, 1),
+    (-671043600, 2), (-652896000, 1), (-639594000, 2), (-620841600, 1), (-608144400, 2),
+    (-589392000, 1), (-576090000, 2), (-557942400, 1), (-544640400, 2), (-526492800, 1),
+    (-513190800, 2), (-495043200, 1), (-481741200, 2), (-463593600, 6), (-386787600, 2),
+    (-368640000, 6), (-21488400, 7), (-5767200, 6), (9961200, 7), (25682400, 6), (1143961200, 7),
+    (1162101600, 6), (1173596400, 7),
+]);
 
 /// `America/Indiana/Knox`: 93 transitions, then `CST6CDT,M3.2.0,M11.1.0`.
 pub const KNOX: TimeZoneRef<'static> = zone(
