@@ -88,7 +88,7 @@ impl<'a> Zone<'a> {
 }
 
 /// The offset of a zone at some instant.
-#[derive(Clone, Copy, Debug, PartialEq, Eq)]
+#[derive(Clone, Copy, PartialEq, Eq)]
 pub struct ZoneOffset<'a> {
     zone: Zone<'a>,
     local_time_type: LocalTimeType,
@@ -115,6 +115,18 @@ impl fmt::Display for ZoneOffset<'_> {
         match self.local_time_type.time_zone_designation() {
             "" => self.fix().fmt(f),
             name => f.write_str(name),
+        }
+    }
+}
+
+/// Prints the offset, and the name of the local time type if it has one: `+02:00 CEST`. The zone's
+/// tables, which would fill pages, are in `Zone`'s.
+impl fmt::Debug for ZoneOffset<'_> {
+    fn fmt(&self, f: &mut fmt::Formatter<'_>) -> fmt::Result {
+        fmt::Debug::fmt(&self.fix(), f)?;
+        match self.local_time_type.time_zone_designation() {
+            "" => Ok(()),
+            name => write!(f, " {name}"),
         }
     }
 }

@@ -106,3 +106,17 @@ fn leap_seconds_and_what_is_refused() {
     let zone = TimeZoneRef::new(&[], &almost, &leap_seconds, &None).unwrap();
     assert_eq!(Zone::new(zone).unwrap().zone(), zone);
 }
+
+#[test]
+fn debug_is_short() {
+    let paris = Zone::new(tz_zones::europe::PARIS).unwrap();
+    let shown = paris.timestamp_opt(1_751_328_000, 0).unwrap();
+    assert_eq!(format!("{shown:?}"), "2025-07-01T02:00:00+02:00 CEST");
+    assert_eq!(format!("{:?}", shown.offset()), "+02:00 CEST");
+    let nameless = LocalTimeType::new(-12_345, false, None).unwrap();
+    let rule = Some(TransitionRule::Fixed(nameless));
+    let types = [nameless];
+    let zone = TimeZoneRef::new(&[], &types, &[], &rule).unwrap();
+    let shown = Zone::new(zone).unwrap().timestamp_opt(0, 0).unwrap();
+    assert_eq!(format!("{shown:?}"), "1969-12-31T20:34:15-03:25:45");
+}
