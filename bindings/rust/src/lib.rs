@@ -55,16 +55,24 @@
 //!
 //! # Features
 //!
-//! - without any: all calls that this page links to. They need no allocator, and many are `const fn`, so that zones can stand in constants
-//! - `alloc`: also `TimeZone`, which owns its parts, `TimeZoneSettings` with a reader of your own, and `DateTime::find`
-//! - `std`, the default: also the system's zone files and clock, and `std::time::SystemTime`
+//! - without any: all calls of the table but `TimeZone::named`, `TimeZone::from_tz_data` and `DateTime::find`. They need no allocator
+//! - `alloc`: also `TimeZone`, which owns its parts, with `from_tz_data`; `TimeZoneSettings` with a reader of your own; and `DateTime::find`
+//! - `std`, the default: also the system's zone files (`TimeZone::named`, `local`) and clock, and `std::time::SystemTime`
+//!
+//! Zones can stand in constants: making them, lookups, changes and starts of days are `const fn`, as are dates but [`Date::parse`]. Searches, columns and
+//! reading of texts are not.
 //!
 //! All types are `Send` and `Sync`, and hold neither locks nor caches. There is no global state.
 //!
 //! # Errors and panics
 //!
-//! Bytes of a file, TZ strings, texts and numbers may come from anyone: a call that cannot answer returns an error. Only `+` and `-` of a duration (as
-//! std's), conversions into a `SystemTime`, and copies that allocate can panic, and their docs say so.
+//! Bytes of a file, TZ strings, texts and numbers may come from anyone: a call that cannot answer returns an error. These panic, and their docs say so:
+//!
+//! - `+` and `-` of a duration (as std's), and conversions into a `SystemTime`, out of range
+//! - out of memory `TimeZone::utc`, `TimeZone::fixed`, and copies of a `TimeZone` or of the list that `DateTime::find` returns
+//!
+//! Out of memory the program aborts when an error is boxed, or when a list of one date time becomes a vector (`into_inner`, `into_iter`). Other calls
+//! that allocate return [`TzError::Memory`].
 //!
 //! # What is proved
 //!
