@@ -21,6 +21,7 @@ from database import (
     WeekDay,
     YearDay,
     count_to_keep,
+    read_links,
     read_version,
     read_zone,
     read_zones,
@@ -253,6 +254,16 @@ class Files(unittest.TestCase):
             self.assertEqual(list(read_zones(folder)), ['Europe/Paris'])
 
 
+class Links(unittest.TestCase):
+    def test_the_second_name_of_a_line_l_is_a_link(self):
+        with tempfile.TemporaryDirectory() as name:
+            folder = pathlib.Path(name)
+            self.assertEqual(read_links(folder), set())
+            text = '# version 2031c\nZ Asia/Kolkata 5:30 - IST\nL Asia/Kolkata Asia/Calcutta\n'
+            (folder / 'tzdata.zi').write_text(text)
+            self.assertEqual(read_links(folder), {'Asia/Calcutta'})
+
+
 class Generate(unittest.TestCase):
     def generate(self, *arguments):
         program = pathlib.Path(__file__).resolve().with_name('generate')
@@ -268,6 +279,7 @@ class Generate(unittest.TestCase):
         self.assertEqual(found.returncode, 1)
         self.assertIn('version 2001a: 1 names, 1 zones, ', found.stdout)
         self.assertIn('src/zones/names.rs is not what this database gives\n', found.stderr)
+        self.assertIn('the figures of README.md are not those of this database\n', found.stderr)
 
     def test_bad_arguments_and_folders_are_refused(self):
         with tempfile.TemporaryDirectory() as folder:

@@ -26,6 +26,9 @@
 //! | `Etc/GMT-0` | [`etc::GMT_MINUS_0`] |
 //! | `GB-Eire` | [`GB_EIRE`] |
 //!
+//! Names with one zone (links) are constants, too. Their docs name the canonical one, as the tz
+//! database has it: [`asia::CALCUTTA`] is the same as [`asia::KOLKATA`].
+//!
 //! # What a constant is
 //!
 //! The table and the rule of the zone's file. The tail of the table is left out as far as the rule
