@@ -244,6 +244,35 @@ pub unsafe extern "C" fn tz_column_instants(
     columns::tz_column_instants(fields, choice, &zone, unix_times, codes)
 }
 
+/// The instants that readings mean by a choice: those of fields that are read so, without
+/// nanoseconds.
+///
+/// # Safety
+///
+/// What tz.h asks of a caller.
+#[unsafe(no_mangle)]
+pub unsafe extern "C" fn tz_column_instants_of_readings(
+    readings: *const i64,
+    readings_length: usize,
+    choice: u8,
+    zone: *const Zone,
+    unix_times: *mut i64,
+    unix_times_length: usize,
+    codes: *mut u32,
+    codes_length: usize,
+) -> u32 {
+    // SAFETY: tz.h asks of a caller what these require.
+    let (readings, zone, unix_times, codes) = unsafe {
+        (
+            list(readings, readings_length),
+            one(zone).data(),
+            list_mut(unix_times, unix_times_length),
+            list_mut(codes, codes_length),
+        )
+    };
+    columns::tz_column_instants_of_readings(readings, choice, &zone, unix_times, codes)
+}
+
 /// The date time with the fields, which the type shows.
 ///
 /// # Safety

@@ -29,3 +29,4 @@ pub mod Choices
 pub mod Meanings
 pub mod EntryEnds
 pub mod Columns
+pub mod InstantColumns

@@ -12,6 +12,8 @@ ghost use Rattle.tz_zone.specs.Clock.{IsClock, IsLookupFault};
 ghost use Rattle.tz_zone.specs.ZoneOfData.{zone_of_data};
 ghost use Rattle.tz.specs.Columns.{AreAnswered, AreInSegment, IsFirstUnanswered, IsOffsetAt, IsOffsetFaultAt};
 
+pub(crate) mod instants;
+
 use tz_base::error::TzError;
 use tz_rule::timezone::LocalTimeType;
 use tz_zone::inner::ZoneData;

@@ -10,6 +10,7 @@ use Rattle.tz_zone.specs.Table.{Zone}
 use Rattle.tz.specs.DateTimes.{DateTime, IsClockFault, ShowsByClock}
 use Rattle.tz.specs.Choices.{IsMeaning, IsMeaningFault}
 use Rattle.tz.specs.Columns.{IsOffset}
+use Rattle.tz.specs.InstantColumns.{HasNoInstantOfReading, IsInstantOfReading}
 use Rattle.tz.specs.declared.datetime.disambiguation.Disambiguation.{Disambiguation}
 use Rattle.tz_c.specs.Codes.{IsAnswer, IsAnswerOr, buffer_length, code_of, no_date_time, unknown_choice}
 use Rattle.tz_c.specs.DateTimes.{CanBeSearched, IsDateTimeDataOf}
@@ -57,6 +58,11 @@ IsDateTimeAt z unix_times nanoseconds i code written =
     (u : ℤ) (n : ℕ) → slice_get unix_times i ≡ Some u → slice_get nanoseconds i ≡ Some n
     → IsAnswer code (IsDateTimeDataOf (ShowsByClock z u n) written) (IsClockFault z u n)
 
+-- the code of an element without an instant: that of none, or that of its error
+abbrev pub IsCodeOfNone : Option TzError → ℕ → Type 0
+IsCodeOfNone None code = code ≡ no_date_time
+IsCodeOfNone (Some e) code = code ≡ code_of e
+
 -- the instant of the date time that fields mean by a choice, whose year fits 32 bits as that of one
 -- that is written does, or none is meant, or there is a fault
 abbrev pub IsInstantAnswer : Zone → Disambiguation → Fields → ℕ → ℤ → Type 0
@@ -81,3 +87,26 @@ AreInstantsBy z (Some choice) fields code before after codes_before codes =
     (AreOfLength (length fields) before codes_before
     × AreAnswers (IsInstantAt z choice fields) before after codes)
     (¬ AreOfLength (length fields) before codes_before)
+
+-- the instant that a reading means by a choice, or it means none, or there is a fault
+abbrev pub IsReadingAnswer : Zone → Disambiguation → ℤ → ℕ → ℤ → Type 0
+IsReadingAnswer z choice r code u =
+    ((code ≡ 0) × IsInstantOfReading z choice r u)
+    ⊎ ((code ≡ no_date_time) × HasNoInstantOfReading z choice r None)
+    ⊎ ((e : TzError) × (code ≡ code_of e) × HasNoInstantOfReading z choice r (Some e))
+
+-- the instant that the reading of the index means
+abbrev pub IsReadingAt : Zone → Disambiguation → List ℤ → ℕ → ℕ → ℤ → Type 0
+IsReadingAt z choice readings i code u = (r : ℤ) → slice_get readings i ≡ Some r
+    → IsReadingAnswer z choice r code u
+
+-- the same of a whole column by the number of a choice
+abbrev pub AreInstantsOfReadingsBy : Zone → Option Disambiguation → List ℤ → ℕ → List ℤ → List ℤ
+    → List ℕ → List ℕ → Type 0
+AreInstantsOfReadingsBy z None readings code before after codes_before codes =
+    code ≡ unknown_choice
+AreInstantsOfReadingsBy z (Some choice) readings code before after codes_before codes =
+    IsAnswerOr code buffer_length
+    (AreOfLength (length readings) before codes_before
+    × AreAnswers (IsReadingAt z choice readings) before after codes)
+    (¬ AreOfLength (length readings) before codes_before)

@@ -6,9 +6,8 @@ ghost use Rattle.tz_base.specs.Fields.{IsCivil, IsReading};
 ghost use Rattle.tz.specs.DateTimes.{IsClockFault, ShowsByClock};
 ghost use Rattle.tz_zone.specs.Changes.{IsTrueSegment, segment_of};
 ghost use Rattle.tz_zone.specs.Clock.{IsClock, IsLookupFault};
-ghost use Rattle.tz.specs.declared.datetime.disambiguation.Disambiguation.{Disambiguation};
 ghost use Rattle.tz_c.specs.Codes.{IsAnswer, IsAnswerOr, buffer_length};
-ghost use Rattle.tz_c.specs.Columns.{AreAnswers, AreInstantsBy, AreOfLength, AreOkFrom, IsDateTimeAt, IsDay, IsInDay, IsInstantAnswer, IsInstantAt, IsOffsetAt};
+ghost use Rattle.tz_c.specs.Columns.{AreAnswers, AreInstantsBy, AreInstantsOfReadingsBy, AreOfLength, AreOkFrom, IsCodeOfNone, IsDateTimeAt, IsDay, IsInDay, IsOffsetAt};
 ghost use Rattle.tz_c.specs.DateTimes.{IsDateTimeDataOf, choice_of};
 ghost use Rattle.tz_c.specs.ZoneOfData.{zone_of_data};
 
@@ -18,8 +17,9 @@ use crate::codes::{
 use crate::date_time_data::DateTimeData;
 use crate::searches::choice_of;
 use crate::zone_data::TzZone;
-use tz::datetime::Disambiguation;
-use tz::inner::{Fields, find_one, local_reading, write_offsets};
+use tz::inner::{
+    Fields, local_reading, write_instants, write_instants_of_readings, write_offsets,
+};
 use tz_base::constants::{NANOSECONDS_PER_SECOND, SECONDS_PER_DAY};
 use tz_base::error::TzError;
 use tz_rule::timezone::LocalTimeType;
@@ -180,24 +180,13 @@ fn date_time_in(
     OK
 }
 
-/// The instant that fields mean by a choice.
-fn instant_of(
-    fields: &Fields,
-    disambiguation: Disambiguation,
-    zone: &TzZone<'_>,
-    out: &mut i64,
-) -> u32
-    ensures answer { IsInstantAnswer (zone_of_data zone.now) disambiguation fields.now result
-        out.new }
-    ensures kept { result ≢ 0 → out.new ≡ out.old }
+/// The code of an element that has no instant: that of its error, if there is one.
+fn code_of_none(error: &Option<TzError>) -> u32
+    ensures { IsCodeOfNone error.now result }
 {
-    match find_one(fields, disambiguation, &zone.as_zone_data()) {
-        Ok(Some(date_time)) => {
-            *out = DateTimeData::of(&date_time).unix_time;
-            OK
-        }
-        Ok(None) => NO_DATE_TIME,
-        Err(error) => code_of(&error),
+    match error {
+        Some(error) => code_of(error),
+        None => NO_DATE_TIME,
     }
 }
 
@@ -294,8 +283,45 @@ pub extern "C" fn tz_column_instants(
     if unix_times.len() != fields.len() || codes.len() != fields.len() {
         return BUFFER_LENGTH;
     }
-    for i in 0..fields.len() {
-        codes[i] = instant_of(&fields[i], disambiguation, zone, &mut unix_times[i]);
+    clear(codes);
+    let data = zone.as_zone_data();
+    let mut first = 0;
+    while let Err(none) = write_instants(fields, first, disambiguation, &data, unix_times) {
+        codes[none.index] = code_of_none(&none.error);
+        first = none.index + 1;
+    }
+    OK
+}
+
+/// The instants that readings mean by a choice: those of fields that are read so, without
+/// nanoseconds.
+#[unsafe(no_mangle)]
+pub extern "C" fn tz_column_instants_of_readings(
+    readings: &[i64],
+    choice: u8,
+    zone: &TzZone<'_>,
+    unix_times: &mut [i64],
+    codes: &mut [u32],
+) -> u32
+    ensures answer { AreInstantsOfReadingsBy (zone_of_data zone.now) (choice_of choice) readings.now
+        result unix_times.old unix_times.new codes.old codes.new }
+    ensures unix_times_kept { result ≢ 0 → unix_times.new ≡ unix_times.old }
+    ensures codes_kept { result ≢ 0 → codes.new ≡ codes.old }
+{
+    let Some(disambiguation) = choice_of(choice) else {
+        return UNKNOWN_CHOICE;
+    };
+    if unix_times.len() != readings.len() || codes.len() != readings.len() {
+        return BUFFER_LENGTH;
+    }
+    clear(codes);
+    let data = zone.as_zone_data();
+    let mut first = 0;
+    while let Err(none) =
+        write_instants_of_readings(readings, first, disambiguation, &data, unix_times)
+    {
+        codes[none.index] = code_of_none(&none.error);
+        first = none.index + 1;
     }
     OK
 }

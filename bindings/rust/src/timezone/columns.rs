@@ -3,7 +3,7 @@
 use super::TimeZoneRef;
 use crate::datetime::{DateTime, Disambiguation, UtcDateTime};
 use crate::error::{ColumnError, TzError};
-use crate::proved::tz::inner::{Unanswered, write_offsets};
+use crate::proved::tz::inner::{NoInstant, Unanswered, write_instants, write_instants_of_readings, write_offsets};
 use crate::proved::tz_zone::inner::ZoneData;
 
 /// Answers each place of a column of the same length, and returns the first error. The places of errors stay as they are.
@@ -22,6 +22,29 @@ fn answer<I, T>(
             Ok(answer) => *slot = answer,
             Err(error) if first.is_ok() => first = Err(ColumnError::At { place, error }),
             Err(_) => {}
+        }
+    }
+    first
+}
+
+/// Answers a column of as many instants as are asked, by a call that goes on from a place, and returns the first error. A place with an error stays
+/// as it is, and one whose local time means no instant gets `None`.
+#[inline(always)]
+fn answer_instants(
+    asked: usize,
+    unix_times: &mut [Option<i64>],
+    write: impl Fn(usize, &mut [Option<i64>]) -> Result<(), NoInstant>,
+) -> Result<(), ColumnError> {
+    if asked != unix_times.len() {
+        return Err(ColumnError::UnequalLengths);
+    }
+    let (mut next, mut first) = (0, Ok(()));
+    while let Err(NoInstant { index: i, error }) = write(next, unix_times) {
+        next = i + 1;
+        match (error, unix_times.get_mut(i)) {
+            (Some(error), _) => first = first.and(Err(ColumnError::At { place: i, error })),
+            (None, Some(slot)) => *slot = None,
+            (None, None) => {}
         }
     }
     first
@@ -104,9 +127,46 @@ impl TimeZoneRef<'_> {
         disambiguation: Disambiguation,
         unix_times: &mut [Option<i64>],
     ) -> Result<(), ColumnError> {
-        answer(local.iter(), unix_times, |local| {
-            let date_time = DateTime::from_local(*local, disambiguation, *self)?;
-            Ok(date_time.map(|date_time| date_time.unix_time()))
+        let zone = ZoneData::of(self);
+        answer_instants(local.len(), unix_times, |next, unix_times| {
+            write_instants(local, next, disambiguation, &zone, unix_times)
+        })
+    }
+
+    /// Writes the instants that readings mean, in Unix seconds, into a column of the same length. A reading is what a clock shows, as the seconds
+    /// from 1970-01-01 00:00:00 on that clock: the [`unix_time`](UtcDateTime::unix_time) of a local time. The instant, or `None`, is that of
+    /// [`instants_of`](Self::instants_of) for that local time, but no local time is worked out. Readings in order are fastest, and those far from
+    /// changes of the clock.
+    ///
+    /// # Errors
+    ///
+    /// - [`ColumnError::UnequalLengths`] if the columns differ in length: nothing is written;
+    /// - [`ColumnError::At`] the first place at which there is an error, with those of [`DateTime::from_local`], or
+    ///   [`OutOfRange`](TzError::OutOfRange) if the year of the reading does not fit an `i32`. All other instants are written, and where there is an
+    ///   error the column stays as it is.
+    ///
+    /// ```
+    /// # #[cfg(feature = "std")] {
+    /// use tz::datetime::Disambiguation;
+    ///
+    /// let zone = tz::TimeZone::from_posix_tz("CET-1CEST,M3.5.0,M10.5.0/3")?;
+    /// // 2000-03-26, 1:59:59, 2:00 and 3:00: clocks are set forward from 2:00 to 3:00.
+    /// let readings = [954_035_999, 954_036_000, 954_039_600];
+    /// let mut instants = [None; 3];
+    /// zone.as_ref().instants_of_readings(&readings, Disambiguation::Reject, &mut instants)?;
+    /// assert_eq!(instants, [Some(954_032_399), None, Some(954_032_400)]);
+    /// # }
+    /// # Ok::<(), Box<dyn std::error::Error>>(())
+    /// ```
+    pub fn instants_of_readings(
+        &self,
+        readings: &[i64],
+        disambiguation: Disambiguation,
+        unix_times: &mut [Option<i64>],
+    ) -> Result<(), ColumnError> {
+        let zone = ZoneData::of(self);
+        answer_instants(readings.len(), unix_times, |next, unix_times| {
+            write_instants_of_readings(readings, next, disambiguation, &zone, unix_times)
         })
     }
 }

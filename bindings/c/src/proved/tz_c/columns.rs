@@ -7,8 +7,9 @@ use crate::proved::tz_c::codes::{
 use crate::proved::tz_c::date_time_data::DateTimeData;
 use crate::proved::tz_c::searches::choice_of;
 use crate::proved::tz_c::zone_data::TzZone;
-use tz::proved::tz::datetime::Disambiguation;
-use tz::proved::tz::inner::{Fields, find_one, local_reading, write_offsets};
+use tz::proved::tz::inner::{
+    Fields, local_reading, write_instants, write_instants_of_readings, write_offsets,
+};
 use tz::proved::tz_base::constants::{NANOSECONDS_PER_SECOND, SECONDS_PER_DAY};
 use tz::proved::tz_base::error::TzError;
 use tz::proved::tz_rule::timezone::LocalTimeType;
@@ -124,20 +125,11 @@ fn date_time_in(
     OK
 }
 
-/// The instant that fields mean by a choice.
-fn instant_of(
-    fields: &Fields,
-    disambiguation: Disambiguation,
-    zone: &TzZone<'_>,
-    out: &mut i64,
-) -> u32 {
-    match find_one(fields, disambiguation, &zone.as_zone_data()) {
-        Ok(Some(date_time)) => {
-            *out = DateTimeData::of(&date_time).unix_time;
-            OK
-        }
-        Ok(None) => NO_DATE_TIME,
-        Err(error) => code_of(&error),
+/// The code of an element that has no instant: that of its error, if there is one.
+fn code_of_none(error: &Option<TzError>) -> u32 {
+    match error {
+        Some(error) => code_of(error),
+        None => NO_DATE_TIME,
     }
 }
 
@@ -210,8 +202,40 @@ pub fn tz_column_instants(
     if unix_times.len() != fields.len() || codes.len() != fields.len() {
         return BUFFER_LENGTH;
     }
-    for i in 0..fields.len() {
-        codes[i] = instant_of(&fields[i], disambiguation, zone, &mut unix_times[i]);
+    clear(codes);
+    let data = zone.as_zone_data();
+    let mut first = 0;
+    while let Err(none) = write_instants(fields, first, disambiguation, &data, unix_times) {
+        codes[none.index] = code_of_none(&none.error);
+        first = none.index + 1;
+    }
+    OK
+}
+
+/// The instants that readings mean by a choice: those of fields that are read so, without
+/// nanoseconds.
+#[inline(always)]
+pub fn tz_column_instants_of_readings(
+    readings: &[i64],
+    choice: u8,
+    zone: &TzZone<'_>,
+    unix_times: &mut [i64],
+    codes: &mut [u32],
+) -> u32 {
+    let Some(disambiguation) = choice_of(choice) else {
+        return UNKNOWN_CHOICE;
+    };
+    if unix_times.len() != readings.len() || codes.len() != readings.len() {
+        return BUFFER_LENGTH;
+    }
+    clear(codes);
+    let data = zone.as_zone_data();
+    let mut first = 0;
+    while let Err(none) =
+        write_instants_of_readings(readings, first, disambiguation, &data, unix_times)
+    {
+        codes[none.index] = code_of_none(&none.error);
+        first = none.index + 1;
     }
     OK
 }

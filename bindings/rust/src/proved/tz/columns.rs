@@ -6,6 +6,8 @@
 //! serves it. In a block that is in order each instant is looked for in the segment of the one
 //! before. All others are looked up at once: whether that segment holds them cannot be predicted.
 
+pub(crate) mod instants;
+
 use crate::proved::tz_base::error::TzError;
 use crate::proved::tz_rule::timezone::LocalTimeType;
 use crate::proved::tz_zone::inner::ZoneData;

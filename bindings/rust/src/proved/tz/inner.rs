@@ -2,6 +2,9 @@
 //! For the crates above and their tests, and no part of the public surface: fields, text, the
 //! search for them, the slots that it fills, columns, and how bytes are read.
 
+pub use crate::proved::tz::columns::instants::{
+    NoInstant, write_instants, write_instants_of_readings,
+};
 pub use crate::proved::tz::columns::{Unanswered, write_offsets};
 pub use crate::proved::tz::datetime::date_time::fields_of;
 #[cfg(feature = "inner")]

@@ -154,7 +154,7 @@ fn shown_apart(unix_time: i64, nanoseconds: u32, zone: &ZoneData<'_>) -> Result<
 /// The one date time that valid fields mean by a choice, if there is one. `reading` is that of the
 /// fields.
 #[inline(always)]
-fn find_one_valid(
+pub(crate) fn find_one_valid(
     fields: &Fields,
     reading: i64,
     disambiguation: Disambiguation,
