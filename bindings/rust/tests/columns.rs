@@ -109,12 +109,7 @@ fn date_times_are_those_of_single_calls() {
 fn instants_are_those_of_single_calls() {
     let zone = zone();
     let zone = zone.as_ref();
-    for disambiguation in [
-        Disambiguation::Compatible,
-        Disambiguation::Earlier,
-        Disambiguation::Later,
-        Disambiguation::Reject,
-    ] {
+    for disambiguation in CHOICES {
         for length in lengths() {
             let local = (0..length).map(|place| match place % 5 {
                 0 => UtcDateTime::new(2000, 3, 26, 2, 30, 0, 0).unwrap(),
@@ -133,6 +128,105 @@ fn instants_are_those_of_single_calls() {
             assert_eq!(told(answer), first(&single));
             let wanted = single.iter().map(|one| *one.as_ref().unwrap_or(&Some(77)));
             assert!(wanted.eq(meant));
+        }
+    }
+}
+
+/// All choices.
+const CHOICES: [Disambiguation; 4] = [
+    Disambiguation::Compatible,
+    Disambiguation::Earlier,
+    Disambiguation::Later,
+    Disambiguation::Reject,
+];
+
+/// The instants of readings are those of the local times that are read so, with the same errors.
+fn compare_readings(zone: TimeZoneRef<'_>, readings: &[i64]) {
+    for disambiguation in CHOICES {
+        let single = readings.iter().map(|reading| {
+            let local = UtcDateTime::from_timespec(*reading, 0)?;
+            let meant = DateTime::from_local(local, disambiguation, zone)?;
+            Ok(meant.map(|meant| meant.unix_time()))
+        });
+        let single: Vec<Result<Option<i64>, TzError>> = single.collect();
+        let mut meant = vec![Some(77); readings.len()];
+        let answer = zone.instants_of_readings(readings, disambiguation, &mut meant);
+        assert_eq!(told(answer), first(&single));
+        let wanted = single.iter().map(|one| *one.as_ref().unwrap_or(&Some(77)));
+        assert!(wanted.eq(meant));
+    }
+}
+
+/// Readings at and beside the changes of a zone, as clocks read before and after each, in order.
+fn readings_beside_changes(zone: TimeZoneRef<'_>) -> Vec<i64> {
+    let mut readings = Vec::new();
+    for change in zone.changes_after(-3_000_000_000).take(60) {
+        for local_time_type in [change.before(), change.after()] {
+            let reading = change.unix_time() + i64::from(local_time_type.ut_offset());
+            readings.extend(
+                [
+                    -86_400, -7201, -3600, -1, 0, 1, 1800, 3599, 3600, 7200, 86_400,
+                ]
+                .map(|far| reading + far),
+            );
+        }
+    }
+    readings.sort_unstable();
+    readings
+}
+
+#[test]
+fn readings_mean_what_local_times_do() {
+    let strings = [
+        "CET-1CEST,M3.5.0,M10.5.0/3",
+        "EST5EDT,M3.2.0,M11.1.0",
+        "<+1030>-10:30<+11>-11,M10.1.0,M4.1.0",
+        "AAA0BBB-1,J1/2,J1/3:30",
+        "AAA-14BBB12,M3.1.0,M10.1.0",
+        "<-03>3",
+    ];
+    let mut zones: Vec<_> = strings
+        .iter()
+        .map(|string| zone_of(string).unwrap())
+        .collect();
+    zones.push(zone());
+    for zone in &zones {
+        let zone = zone.as_ref();
+        let mut readings = readings_beside_changes(zone);
+        readings.extend([
+            i64::MIN,
+            i64::MAX,
+            UtcDateTime::MIN.unix_time(),
+            UtcDateTime::MAX.unix_time(),
+        ]);
+        compare_readings(zone, &readings);
+        readings.reverse();
+        compare_readings(zone, &readings);
+        let length = readings.len();
+        let other: Vec<_> = (0..length)
+            .map(|place| readings[(place * 769) % length])
+            .collect();
+        compare_readings(zone, &other);
+    }
+}
+
+/// Each length up to more than two blocks, in order and in none, with an error or no instant at each place.
+#[test]
+fn a_reading_without_an_instant_may_be_at_each_place() {
+    let zone = zone();
+    let zone = zone.as_ref();
+    // No year of 32 bits, the year after the last, and a gap.
+    let none = [i64::MAX, UtcDateTime::MAX.unix_time() + 1, 954_037_800];
+    for step in [0, 600, 9_000_000, -9_000_000, 77_777_777_777] {
+        for length in 0..=40 {
+            let reading = |place: usize| 954_000_000 + (step * place as i64) % 900_000_000;
+            let mut readings: Vec<_> = (0..length).map(reading).collect();
+            compare_readings(zone, &readings);
+            for place in 0..length {
+                let before = std::mem::replace(&mut readings[place], none[place % none.len()]);
+                compare_readings(zone, &readings);
+                readings[place] = before;
+            }
         }
     }
 }
@@ -233,6 +327,8 @@ fn unequal_lengths_are_refused() {
     for length in [0, 1, 3] {
         let local = vec![UtcDateTime::UNIX_EPOCH; length];
         refused(zone.instants_of(&local, Disambiguation::Reject, &mut meant));
+        let readings = vec![0; length];
+        refused(zone.instants_of_readings(&readings, Disambiguation::Reject, &mut meant));
     }
     assert_eq!(meant, [Some(77); 2]);
 }

@@ -31,3 +31,5 @@ pub mod ReadBack
 pub mod PrintedForms
 pub mod PrintedBytes
 pub mod ColumnAnswers
+pub mod ReadingInstants
+pub mod ColumnInstants

@@ -1,7 +1,7 @@
 -- What a call that finds the instants of a whole column answers, from an index on, up to the first
 -- that has none.
 use Rattle.std.specs.Int.{w32}
-use Rattle.std.specs.Prelude.{◌≡◌, ◌⊎◌, FitsSigned, ℕ, ◌<◌, ◌≤◌, ℤ, List, Option, Some, None, length, slice_get}
+use Rattle.std.specs.Prelude.{◌≡◌, ◌⊎◌, FitsSigned, ℕ, ◌<◌, ◌≤◌, ℤ, ◌-ℤ◌, ◌≤ℤ◌, List, Option, Some, None, length, slice_get}
 use Rattle.tz_base.specs.declared.error.TzError.{TzError}
 use Rattle.tz_base.specs.declared.error.TzError.TheVariants as faults
 use Rattle.tz_base.specs.declared.fields.Fields.{Fields}
@@ -13,6 +13,7 @@ use Rattle.tz.specs.Columns.{AreAnswered}
 use Rattle.tz.specs.DateTimes.{DateTime}
 use Rattle.tz.specs.Found.{EachCanBeMade}
 use Rattle.tz.specs.declared.columns.instants.NoInstant.{NoInstant}
+use Rattle.tz.specs.declared.columns.instants.Stretch.{Stretch}
 use Rattle.tz.specs.declared.datetime.disambiguation.Disambiguation.{Disambiguation}
 
 -- an index has no instant, and those from one up to it do
@@ -56,3 +57,8 @@ abbrev pub HasNoInstantOfReading : Zone → Disambiguation → ℤ → Option Tz
 HasNoInstantOfReading z choice r e =
     (IsReading r × ((f : Fields) × IsCivil r 0 f × HasNoInstant z choice f e))
     ⊎ ((e ≡ Some faults.OutOfRange) × ¬ IsReading r)
+
+-- by all choices each reading of a stretch means the instant that is as much before it as its offset
+abbrev pub IsStretch : Zone → Stretch → Type 0
+IsStretch z s = (r : ℤ) (choice : Disambiguation) → s.from ≤ℤ r → r ≤ℤ s.last
+    → IsInstantOfReading z choice r (r -ℤ s.offset)

@@ -3,7 +3,9 @@
 use super::TimeZoneRef;
 use crate::datetime::{DateTime, Disambiguation, UtcDateTime};
 use crate::error::{ColumnError, TzError};
-use crate::proved::tz::inner::{NoInstant, Unanswered, write_instants, write_instants_of_readings, write_offsets};
+use crate::proved::tz::inner::{
+    NoInstant, Unanswered, write_instants, write_instants_of_readings, write_offsets,
+};
 use crate::proved::tz_zone::inner::ZoneData;
 
 /// Answers each place of a column of the same length, and returns the first error. The places of errors stay as they are.

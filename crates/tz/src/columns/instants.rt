@@ -1,18 +1,31 @@
 //! The instants that the local times of a whole column mean by a choice, from an index on, up to
 //! the first that means none.
+//!
+//! A column of readings has no fields, so most of its instants take one subtraction: far enough from
+//! changes on both sides a type of the clock serves a stretch of readings, by all choices. Readings
+//! are taken in blocks. In a block that is in order each reading is looked for in the stretch around
+//! the one before, or else around itself. In other blocks the stretch stays, since whether another
+//! one would serve the next reading cannot be predicted.
 
-ghost use Rattle.std.specs.Prelude.{◌≡◌, ◌≤◌, Some, None, length, IfOk, IfErr, OnOk};
+ghost use Rattle.std.specs.Prelude.{◌≡◌, ◌<◌, ◌≤◌, pos, negsuc, ◌+ℤ◌, ◌≤ℤ◌, length, IfOk, IfErr};
+ghost use Rattle.std.specs.Prelude.{OnOk};
+ghost use Rattle.tz_base.specs.Fields.{IsReading};
 ghost use Rattle.tz_zone.specs.ZoneOfData.{zone_of_data};
 ghost use Rattle.tz.specs.Columns.{AreAnswered};
 ghost use Rattle.tz.specs.InstantColumns.{HasNoInstant, HasNoInstantOfReading, HasNoneAt};
 ghost use Rattle.tz.specs.InstantColumns.{HoldsInstantAt, IsFirstWithout, IsInstantOf};
-ghost use Rattle.tz.specs.InstantColumns.{IsInstantOfReading};
+ghost use Rattle.tz.specs.InstantColumns.{IsInstantOfReading, IsStretch};
 
-use crate::datetime::disambiguation::{find_one, find_one_valid};
+use super::block_end;
+use crate::datetime::disambiguation::{find_instant, find_one, find_one_valid};
 use crate::datetime::{DateTime, Disambiguation, UtcDateTime};
 use tz_base::error::TzError;
 use tz_base::fields::{Fields, is_reading};
 use tz_zone::inner::ZoneData;
+
+/// The first reading and the last of the years of 32 bits.
+const FIRST_READING: i64 = -67_768_100_567_971_200;
+const LAST_READING: i64 = 67_767_976_233_532_799;
 
 /// The first index that has no instant.
 #[derive(Drop)]
@@ -129,21 +142,101 @@ fn instant_of<L: LocalTime>(
     }
 }
 
-/// The instant that a reading means by a choice.
+/// Readings from one to another, each of which means the same instant by all choices: as many seconds
+/// before it as the offset has.
+#[derive(Clone, Copy)]
+struct Stretch {
+    from: i64,
+    last: i64,
+    offset: i32,
+}
+
+/// A stretch of no readings.
+const EMPTY: Stretch = Stretch {
+    from: 0,
+    last: -1,
+    offset: 0,
+};
+
+/// The first reading that can be in a stretch, if a type begins at an instant: the greatest offset
+/// after it, or the first reading of all.
+fn first_reading(from: i64, greatest: i32) -> i64
+    requires { from ≤ℤ pos 70000000000000000 }
+    ensures after { (from +ℤ greatest) ≤ℤ result }
+    ensures in_range { negsuc 67768100567971199 ≤ℤ result }
+{
+    if from < FIRST_READING - i64::from(greatest) {
+        return FIRST_READING;
+    }
+    from + i64::from(greatest)
+}
+
+/// The last reading that can be in a stretch, if a type ends with an instant: the least offset after
+/// it, or the last reading of all.
+fn last_reading(last: i64, least: i32) -> i64
+    requires { negsuc 70000000000000000 ≤ℤ last }
+    ensures after { result ≤ℤ (last +ℤ least) }
+    ensures in_range { result ≤ℤ pos 67767976233532799 }
+{
+    if LAST_READING - i64::from(least) < last {
+        return LAST_READING;
+    }
+    last + i64::from(least)
+}
+
+/// The stretch of the segment in which the window of a reading begins. If the window ends there too,
+/// the reading is in the stretch.
+fn stretch_around(zone: &ZoneData<'_>, reading: i64) -> Stretch
+    requires { IsReading reading }
+    ensures { IsStretch (zone_of_data zone.now) result }
+{
+    let (least, greatest) = zone.offsets();
+    let segment = zone.segment_at(reading - i64::from(greatest));
+    match segment.local_time_type() {
+        Some(local_time_type) => Stretch {
+            from: first_reading(segment.from(), greatest),
+            last: last_reading(segment.last(), least),
+            offset: local_time_type.ut_offset(),
+        },
+        None => EMPTY,
+    }
+}
+
+/// The stretch in which a reading is looked for: the one before, or that around the reading, if it
+/// is near.
+fn stretch_near(zone: &ZoneData<'_>, before: Stretch, is_near: bool, reading: i64) -> Stretch
+    requires { IsStretch (zone_of_data zone.now) before }
+    ensures { IsStretch (zone_of_data zone.now) result }
+{
+    if before.from <= reading && reading <= before.last {
+        return before;
+    }
+    if is_near && is_reading(reading) {
+        return stretch_around(zone, reading);
+    }
+    before
+}
+
+/// The instant that a reading means by a choice, which is looked for in a stretch.
 #[inline(always)]
-fn instant_of_reading(
+fn instant_in(
+    stretch: Stretch,
     reading: i64,
     disambiguation: Disambiguation,
     zone: &ZoneData<'_>,
 ) -> Result<i64, Option<TzError>>
+    requires { IsStretch (zone_of_data zone.now) stretch }
     ensures ok { IfOk result (IsInstantOfReading (zone_of_data zone.now) disambiguation reading) }
     ensures err { IfErr result
         (HasNoInstantOfReading (zone_of_data zone.now) disambiguation reading) }
 {
+    if stretch.from <= reading && reading <= stretch.last {
+        return Ok(reading - i64::from(stretch.offset));
+    }
     if !is_reading(reading) {
         return Err(Some(TzError::OutOfRange));
     }
-    instant_of(&Fields::from_reading(reading, 0), disambiguation, zone)
+    find_instant(reading, disambiguation, zone)
 }
 
 /// Writes the instants that local times mean by a choice, from an index on, up to the first that
@@ -174,6 +267,40 @@ pub fn write_instants<L: LocalTime, S: InstantSlot>(
     Ok(())
 }
 
+/// Writes the instants of the readings of a block. It returns the stretch around the last reading.
+fn write_instants_of_block<S: InstantSlot>(
+    readings: &[i64],
+    index: usize,
+    end: usize,
+    disambiguation: Disambiguation,
+    zone: &ZoneData<'_>,
+    before: Stretch,
+    slots: &mut [S],
+) -> Result<Stretch, NoInstant>
+    requires lengths { length slots.old ≡ length readings.now }
+    requires block { (index < end) × (end ≤ length readings.now) }
+    requires stretch { IsStretch (zone_of_data zone.now) before }
+    ensures stretch { IfOk result (IsStretch (zone_of_data zone.now)) }
+    ensures ok { OnOk result (AreAnswered (HoldsInstantAt S.holding
+        (IsInstantOfReading (zone_of_data zone.now) disambiguation) readings.now) index end
+        slots.old slots.new) }
+    ensures err { IfErr result (IsFirstWithout (HoldsInstantAt S.holding
+        (IsInstantOfReading (zone_of_data zone.now) disambiguation) readings.now)
+        (HasNoneAt (HasNoInstantOfReading (zone_of_data zone.now) disambiguation) readings.now)
+        index slots.old slots.new) }
+{
+    let is_near = readings[index..end].is_sorted();
+    let mut last = before;
+    for i in index..end {
+        last = stretch_near(zone, last, is_near, readings[i]);
+        match instant_in(last, readings[i], disambiguation, zone) {
+            Ok(unix_time) => slots[i].set(unix_time),
+            Err(error) => return Err(NoInstant { index: i, error }),
+        }
+    }
+    Ok(stretch_near(zone, last, true, readings[end - 1]))
+}
+
 /// Writes the instants that readings mean by a choice, from an index on, up to the first that means
 /// none or has an error. A reading is what a clock shows, in seconds from 1970-01-01 00:00:00 on
 /// that clock. The other slots stay as they are.
@@ -194,11 +321,15 @@ pub fn write_instants_of_readings<S: InstantSlot>(
         (HasNoneAt (HasNoInstantOfReading (zone_of_data zone.now) disambiguation) readings.now)
         first slots.old slots.new) }
 {
-    for i in first..readings.len() {
-        match instant_of_reading(readings[i], disambiguation, zone) {
-            Ok(unix_time) => slots[i].set(unix_time),
-            Err(error) => return Err(NoInstant { index: i, error }),
+    let mut stretch = EMPTY;
+    let mut index = first;
+    while index < readings.len() {
+        let end = block_end(index, readings.len());
+        match write_instants_of_block(readings, index, end, disambiguation, zone, stretch, slots) {
+            Ok(last) => stretch = last,
+            Err(none) => return Err(none),
         }
+        index = end;
     }
     Ok(())
 }

@@ -1,7 +1,7 @@
 //! Which date time a local time means in a zone, by a choice for gaps and folds.
 
 ghost use Rattle.std.specs.Prelude.{◌≡◌, IfOk, IfErr, OnOk};
-ghost use Rattle.tz_base.specs.Fields.{IsValid, reading as reading_of};
+ghost use Rattle.tz_base.specs.Fields.{IsReading, IsValid, reading as reading_of};
 ghost use Rattle.tz_zone.specs.Clock.{IsClock};
 ghost use Rattle.tz_zone.specs.WindowTypes.{AreTypesIn, IfMore, IsPositionOf};
 ghost use Rattle.tz_zone.specs.ZoneOfData.{zone_of_data};
@@ -11,6 +11,7 @@ ghost use Rattle.tz.specs.EntryEnds.{instant_between};
 ghost use Rattle.tz.specs.Entries.{IsRefused};
 ghost use Rattle.tz.specs.Found.{EachCanBeMade};
 ghost use Rattle.tz.specs.Choices.{IsMeaning, IsMeaningFault};
+ghost use Rattle.tz.specs.InstantColumns.{HasNoInstantOfReading, IsInstantOfReading};
 ghost use Rattle.tz.specs.Windows.{IsSearchable, IsSmall};
 
 use super::entry_ends::{Entry, EntryEnds, ends_by_walk, jump_inside};
@@ -164,21 +165,21 @@ pub(super) fn meant_in<'a>(
     }
 }
 
-/// The instant at which the clock is looked up for a jump over the fields.
+/// The instant at which the clock is looked up for a jump over a reading.
 fn lookup_instant(
-    fields: &Fields,
+    reading: i64,
     disambiguation: Disambiguation,
     before: &LocalTimeType,
     after: &LocalTimeType,
 ) -> i64
-    requires { IsValid fields.now }
-    ensures { result ≡ instant_between disambiguation (reading_of fields.now) before.now after.now }
+    requires { IsSmall reading }
+    ensures { result ≡ instant_between disambiguation reading before.now after.now }
 {
     let local_time_type = match disambiguation {
         Disambiguation::Earlier => after,
         _ => before,
     };
-    fields.reading() - i64::from(local_time_type.ut_offset())
+    reading - i64::from(local_time_type.ut_offset())
 }
 
 /// `DateTime::shown_by_clock`, out of line: few searches need it.
@@ -213,9 +214,34 @@ pub(crate) fn find_one_valid(
             Ok(Some(date_time))
         }
         Some(Entry::Jump(_, before, after)) => {
-            let unix_time = lookup_instant(fields, disambiguation, before, after);
+            let unix_time = lookup_instant(reading, disambiguation, before, after);
             Ok(Some(shown_apart(unix_time, fields.nanoseconds, zone)?))
         }
+    }
+}
+
+/// The instant that a reading means by a choice, with no nanoseconds, or why it means none.
+pub(crate) fn find_instant(
+    reading: i64,
+    disambiguation: Disambiguation,
+    zone: &ZoneData<'_>,
+) -> Result<i64, Option<TzError>>
+    requires { IsReading reading }
+    ensures ok { IfOk result (IsInstantOfReading (zone_of_data zone.now) disambiguation reading) }
+    ensures err { IfErr result
+        (HasNoInstantOfReading (zone_of_data zone.now) disambiguation reading) }
+{
+    match meant_in(reading, disambiguation, zone) {
+        Ok(None) => Err(None),
+        Ok(Some(Entry::Shown(unix_time, _))) => Ok(unix_time),
+        Ok(Some(Entry::Jump(_, before, after))) => {
+            let unix_time = lookup_instant(reading, disambiguation, before, after);
+            match shown_apart(unix_time, 0, zone) {
+                Ok(_) => Ok(unix_time),
+                Err(error) => Err(Some(error)),
+            }
+        }
+        Err(error) => Err(Some(error)),
     }
 }
 

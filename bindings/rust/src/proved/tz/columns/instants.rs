@@ -1,12 +1,23 @@
 // Generated from crates/tz/src/columns/instants.rt by bindings/erase: its contracts are cut. Change that file instead.
 //! The instants that the local times of a whole column mean by a choice, from an index on, up to
 //! the first that means none.
+//!
+//! A column of readings has no fields, so most of its instants take one subtraction: far enough from
+//! changes on both sides a type of the clock serves a stretch of readings, by all choices. Readings
+//! are taken in blocks. In a block that is in order each reading is looked for in the stretch around
+//! the one before, or else around itself. In other blocks the stretch stays, since whether another
+//! one would serve the next reading cannot be predicted.
 
-use crate::proved::tz::datetime::disambiguation::{find_one, find_one_valid};
+use super::block_end;
+use crate::proved::tz::datetime::disambiguation::{find_instant, find_one, find_one_valid};
 use crate::proved::tz::datetime::{DateTime, Disambiguation, UtcDateTime};
 use crate::proved::tz_base::error::TzError;
 use crate::proved::tz_base::fields::{Fields, is_reading};
 use crate::proved::tz_zone::inner::ZoneData;
+
+/// The first reading and the last of the years of 32 bits.
+const FIRST_READING: i64 = -67_768_100_567_971_200;
+const LAST_READING: i64 = 67_767_976_233_532_799;
 
 /// The first index that has no instant.
 pub struct NoInstant {
@@ -83,17 +94,82 @@ fn instant_of<L: LocalTime>(
     }
 }
 
-/// The instant that a reading means by a choice.
+/// Readings from one to another, each of which means the same instant by all choices: as many seconds
+/// before it as the offset has.
+#[derive(Clone, Copy)]
+struct Stretch {
+    from: i64,
+    last: i64,
+    offset: i32,
+}
+
+/// A stretch of no readings.
+const EMPTY: Stretch = Stretch {
+    from: 0,
+    last: -1,
+    offset: 0,
+};
+
+/// The first reading that can be in a stretch, if a type begins at an instant: the greatest offset
+/// after it, or the first reading of all.
+fn first_reading(from: i64, greatest: i32) -> i64 {
+    if from < FIRST_READING - i64::from(greatest) {
+        return FIRST_READING;
+    }
+    from + i64::from(greatest)
+}
+
+/// The last reading that can be in a stretch, if a type ends with an instant: the least offset after
+/// it, or the last reading of all.
+fn last_reading(last: i64, least: i32) -> i64 {
+    if LAST_READING - i64::from(least) < last {
+        return LAST_READING;
+    }
+    last + i64::from(least)
+}
+
+/// The stretch of the segment in which the window of a reading begins. If the window ends there too,
+/// the reading is in the stretch.
+fn stretch_around(zone: &ZoneData<'_>, reading: i64) -> Stretch {
+    let (least, greatest) = zone.offsets();
+    let segment = zone.segment_at(reading - i64::from(greatest));
+    match segment.local_time_type() {
+        Some(local_time_type) => Stretch {
+            from: first_reading(segment.from(), greatest),
+            last: last_reading(segment.last(), least),
+            offset: local_time_type.ut_offset(),
+        },
+        None => EMPTY,
+    }
+}
+
+/// The stretch in which a reading is looked for: the one before, or that around the reading, if it
+/// is near.
+fn stretch_near(zone: &ZoneData<'_>, before: Stretch, is_near: bool, reading: i64) -> Stretch {
+    if before.from <= reading && reading <= before.last {
+        return before;
+    }
+    if is_near && is_reading(reading) {
+        return stretch_around(zone, reading);
+    }
+    before
+}
+
+/// The instant that a reading means by a choice, which is looked for in a stretch.
 #[inline(always)]
-fn instant_of_reading(
+fn instant_in(
+    stretch: Stretch,
     reading: i64,
     disambiguation: Disambiguation,
     zone: &ZoneData<'_>,
 ) -> Result<i64, Option<TzError>> {
+    if stretch.from <= reading && reading <= stretch.last {
+        return Ok(reading - i64::from(stretch.offset));
+    }
     if !is_reading(reading) {
         return Err(Some(TzError::OutOfRange));
     }
-    instant_of(&Fields::from_reading(reading, 0), disambiguation, zone)
+    find_instant(reading, disambiguation, zone)
 }
 
 /// Writes the instants that local times mean by a choice, from an index on, up to the first that
@@ -114,6 +190,28 @@ pub fn write_instants<L: LocalTime, S: InstantSlot>(
     Ok(())
 }
 
+/// Writes the instants of the readings of a block. It returns the stretch around the last reading.
+fn write_instants_of_block<S: InstantSlot>(
+    readings: &[i64],
+    index: usize,
+    end: usize,
+    disambiguation: Disambiguation,
+    zone: &ZoneData<'_>,
+    before: Stretch,
+    slots: &mut [S],
+) -> Result<Stretch, NoInstant> {
+    let is_near = readings[index..end].is_sorted();
+    let mut last = before;
+    for i in index..end {
+        last = stretch_near(zone, last, is_near, readings[i]);
+        match instant_in(last, readings[i], disambiguation, zone) {
+            Ok(unix_time) => slots[i].set(unix_time),
+            Err(error) => return Err(NoInstant { index: i, error }),
+        }
+    }
+    Ok(stretch_near(zone, last, true, readings[end - 1]))
+}
+
 /// Writes the instants that readings mean by a choice, from an index on, up to the first that means
 /// none or has an error. A reading is what a clock shows, in seconds from 1970-01-01 00:00:00 on
 /// that clock. The other slots stay as they are.
@@ -124,11 +222,15 @@ pub fn write_instants_of_readings<S: InstantSlot>(
     zone: &ZoneData<'_>,
     slots: &mut [S],
 ) -> Result<(), NoInstant> {
-    for i in first..readings.len() {
-        match instant_of_reading(readings[i], disambiguation, zone) {
-            Ok(unix_time) => slots[i].set(unix_time),
-            Err(error) => return Err(NoInstant { index: i, error }),
+    let mut stretch = EMPTY;
+    let mut index = first;
+    while index < readings.len() {
+        let end = block_end(index, readings.len());
+        match write_instants_of_block(readings, index, end, disambiguation, zone, stretch, slots) {
+            Ok(last) => stretch = last,
+            Err(none) => return Err(none),
         }
+        index = end;
     }
     Ok(())
 }

@@ -130,10 +130,10 @@ pub(super) fn meant_in<'a>(
     }
 }
 
-/// The instant at which the clock is looked up for a jump over the fields.
+/// The instant at which the clock is looked up for a jump over a reading.
 #[inline]
 fn lookup_instant(
-    fields: &Fields,
+    reading: i64,
     disambiguation: Disambiguation,
     before: &LocalTimeType,
     after: &LocalTimeType,
@@ -142,7 +142,7 @@ fn lookup_instant(
         Disambiguation::Earlier => after,
         _ => before,
     };
-    fields.reading() - i64::from(local_time_type.ut_offset())
+    reading - i64::from(local_time_type.ut_offset())
 }
 
 /// What the zone's clock shows at a Unix time. It is cold, as few searches need it.
@@ -167,9 +167,29 @@ pub(crate) fn find_one_valid(
             Ok(Some(date_time))
         }
         Some(Entry::Jump(_, before, after)) => {
-            let unix_time = lookup_instant(fields, disambiguation, before, after);
+            let unix_time = lookup_instant(reading, disambiguation, before, after);
             Ok(Some(shown_apart(unix_time, fields.nanoseconds, zone)?))
         }
+    }
+}
+
+/// The instant that a reading means by a choice, with no nanoseconds, or why it means none.
+pub(crate) fn find_instant(
+    reading: i64,
+    disambiguation: Disambiguation,
+    zone: &ZoneData<'_>,
+) -> Result<i64, Option<TzError>> {
+    match meant_in(reading, disambiguation, zone) {
+        Ok(None) => Err(None),
+        Ok(Some(Entry::Shown(unix_time, _))) => Ok(unix_time),
+        Ok(Some(Entry::Jump(_, before, after))) => {
+            let unix_time = lookup_instant(reading, disambiguation, before, after);
+            match shown_apart(unix_time, 0, zone) {
+                Ok(_) => Ok(unix_time),
+                Err(error) => Err(Some(error)),
+            }
+        }
+        Err(error) => Err(Some(error)),
     }
 }
 
