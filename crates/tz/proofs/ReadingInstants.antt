@@ -24,20 +24,15 @@ module _ (z : Zone) (choice : Disambiguation) (r : ℤ) (in_range : IsReading r)
       let f = civil.0 in
       let valid = civil.1.valid in
       let has = of_fields None means in
-      let inside = (has.0, has.1, has.2) in
       inl (
         in_range,
         (
           f,
+          civil.1,
           (
-            civil.1,
-            (
-              valid,
-              (
-                each_made z f valid inside,
-                none_meant z f valid inside choice has.3,
-              ),
-            ),
+            valid,
+            each_made z f valid (has.0, has.1, has.2),
+            none_meant z f valid (has.0, has.1, has.2) choice has.3,
           ),
         ),
       )
@@ -48,9 +43,8 @@ module _ (z : Zone) (choice : Disambiguation) (r : ℤ) (in_range : IsReading r)
       let f = civil.0 in
       let valid = civil.1.valid in
       let has = of_fields (Some (Shown u t)) means in
-      let inside = (has.0, has.1, has.2) in
-      let meant = shown_meant z f valid inside choice u t has.3 in
-      (in_range, (f, (civil.1, (each_made z f valid inside, (moment_of f t u, (meant.1, refl))))))
+      let meant = shown_meant z f valid (has.0, has.1, has.2) choice u t has.3 in
+      (in_range, (f, civil.1, each_made z f valid (has.0, has.1, has.2), (moment_of f t u, meant.1, refl)))
 
   -- it is shown by the one type that the clock has as far from the reading as offsets go
   pub means_by_one : (least greatest : ℤ) (t : LocalTimeType) → AreLeapSeconds z.leap_seconds → least ≤ℤ greatest
@@ -66,13 +60,9 @@ module _ (z : Zone) (choice : Disambiguation) (r : ℤ) (in_range : IsReading r)
       )) through refl in
       means_shown u t (
         Shown u t ∷ [],
-        (
-          once,
-          (
-            All-cons IsEntryInside (Shown u t) [] tt (All-nil IsEntryInside),
-            sym (one_shown_meant choice u t),
-          ),
-        ),
+        once,
+        All-cons IsEntryInside (Shown u t) [] tt (All-nil IsEntryInside),
+        sym (one_shown_meant choice u t),
       )
 
   -- it is a jump, so the clock is looked up
@@ -83,30 +73,25 @@ module _ (z : Zone) (choice : Disambiguation) (r : ℤ) (in_range : IsReading r)
         let f = civil.0 in
         let valid = civil.1.valid in
         let has = of_fields (Some (Jump u a b)) means in
-        let inside = (has.0, has.1, has.2) in
         let there = subst (λ (w : ℤ). ShowsByClock z w 0 d) beside shows in
         let by_fields = subst (λ (x : ℤ). ShowsByClock z (instant_between choice x a b) 0 d) (sym civil.1.reads)
         there in
         let shown = subst (λ (n : ℕ). ShowsByClock z (instant_between choice (reading f) a b) n d)
         (sym civil.1.nanoseconds_are) by_fields in
-        let meant = jump_meant z f valid inside choice u a b has.3 d shown in
-        (
-          in_range,
-          (f, (civil.1, (each_made z f valid inside, (d, (meant, sym shows.2.instant_is))))),
-        )
+        let meant = jump_meant z f valid (has.0, has.1, has.2) choice u a b has.3 d shown in
+        (in_range, (f, civil.1, each_made z f valid (has.0, has.1, has.2), (d, meant, sym shows.2.instant_is)))
 
     pub fault_beside : (e : TzError) → IsClockFault z v 0 e → HasNoInstantOfReading z choice r (Some e)
     fault_beside e fault =
         let f = civil.0 in
         let valid = civil.1.valid in
         let has = of_fields (Some (Jump u a b)) means in
-        let inside = (has.0, has.1, has.2) in
         let there = subst (λ (w : ℤ). IsClockFault z w 0 e) beside fault in
         let by_fields = subst (λ (x : ℤ). IsClockFault z (instant_between choice x a b) 0 e) (sym civil.1.reads)
         there in
         let due = subst (λ (n : ℕ). IsClockFault z (instant_between choice (reading f) a b) n e)
         (sym civil.1.nanoseconds_are) by_fields in
-        inl (in_range, (f, (civil.1, jump_fault z f valid inside choice u a b has.3 e due)))
+        inl (in_range, (f, civil.1, jump_fault z f valid (has.0, has.1, has.2) choice u a b has.3 e due))
 
   -- an entry of it is refused
   pub refuses : (e : TzError) → IsRefused IsOutsideFault (IsClock z) r e → HasNoInstantOfReading z choice r (Some e)
@@ -114,13 +99,4 @@ module _ (z : Zone) (choice : Disambiguation) (r : ℤ) (in_range : IsReading r)
       let f = civil.0 in
       let valid = civil.1.valid in
       let by_fields = subst (λ (x : ℤ). IsRefused IsOutsideFault (IsClock z) x e) (sym civil.1.reads) refused in
-      inl (
-        in_range,
-        (
-          f,
-          (
-            civil.1,
-            inl (inr (valid, outside_refused (IsClock z) f valid e by_fields)),
-          ),
-        ),
-      )
+      inl (in_range, (f, civil.1, inl (inr (valid, outside_refused (IsClock z) f valid e by_fields))))

@@ -1,5 +1,6 @@
 mod Common
 pub mod AnswersInTurn
+pub mod ColumnInstants
 pub mod ClockIndexes
 pub mod DaySeconds
 pub mod CodeTexts

@@ -7,14 +7,15 @@
 //! the one before, or else around itself. In other blocks the stretch stays, since whether another
 //! one would serve the next reading cannot be predicted.
 
-ghost use Rattle.std.specs.Prelude.{◌≡◌, ◌<◌, ◌≤◌, pos, negsuc, ◌+ℤ◌, ◌≤ℤ◌, length, IfOk, IfErr};
-ghost use Rattle.std.specs.Prelude.{OnOk};
+ghost use Rattle.std.specs.Prelude.{◌≡◌, ◌<◌, ◌≤◌, pos, negsuc, ◌+ℤ◌, ◌-ℤ◌, ◌≤ℤ◌, length};
+ghost use Rattle.std.specs.Prelude.{IfOk, IfErr, OnOk};
 ghost use Rattle.tz_base.specs.Fields.{IsReading};
 ghost use Rattle.tz_zone.specs.ZoneOfData.{zone_of_data};
 ghost use Rattle.tz.specs.Columns.{AreAnswered};
 ghost use Rattle.tz.specs.InstantColumns.{HasNoInstant, HasNoInstantOfReading, HasNoneAt};
 ghost use Rattle.tz.specs.InstantColumns.{HoldsInstantAt, IsFirstWithout, IsInstantOf};
 ghost use Rattle.tz.specs.InstantColumns.{IsInstantOfReading, IsStretch};
+ghost use Rattle.tz.specs.Windows.{IsSmall};
 
 use super::block_end;
 use crate::datetime::disambiguation::{find_instant, find_one, find_one_valid};
@@ -25,6 +26,7 @@ use tz_zone::inner::ZoneData;
 
 /// The first reading and the last of the years of 32 bits.
 const FIRST_READING: i64 = -67_768_100_567_971_200;
+
 const LAST_READING: i64 = 67_767_976_233_532_799;
 
 /// The first index that has no instant.
@@ -158,6 +160,15 @@ const EMPTY: Stretch = Stretch {
     offset: 0,
 };
 
+/// The instant at which clocks with an offset show a reading.
+#[inline(always)]
+fn shown_by(reading: i64, offset: i32) -> i64
+    requires { IsSmall reading }
+    ensures { result ≡ reading -ℤ offset }
+{
+    reading - i64::from(offset)
+}
+
 /// The first reading that can be in a stretch, if a type begins at an instant: the greatest offset
 /// after it, or the first reading of all.
 fn first_reading(from: i64, greatest: i32) -> i64
@@ -191,7 +202,7 @@ fn stretch_around(zone: &ZoneData<'_>, reading: i64) -> Stretch
     ensures { IsStretch (zone_of_data zone.now) result }
 {
     let (least, greatest) = zone.offsets();
-    let segment = zone.segment_at(reading - i64::from(greatest));
+    let segment = zone.segment_at(shown_by(reading, greatest));
     match segment.local_time_type() {
         Some(local_time_type) => Stretch {
             from: first_reading(segment.from(), greatest),
@@ -204,6 +215,7 @@ fn stretch_around(zone: &ZoneData<'_>, reading: i64) -> Stretch
 
 /// The stretch in which a reading is looked for: the one before, or that around the reading, if it
 /// is near.
+#[inline(always)]
 fn stretch_near(zone: &ZoneData<'_>, before: Stretch, is_near: bool, reading: i64) -> Stretch
     requires { IsStretch (zone_of_data zone.now) before }
     ensures { IsStretch (zone_of_data zone.now) result }
@@ -231,7 +243,7 @@ fn instant_in(
         (HasNoInstantOfReading (zone_of_data zone.now) disambiguation reading) }
 {
     if stretch.from <= reading && reading <= stretch.last {
-        return Ok(reading - i64::from(stretch.offset));
+        return Ok(shown_by(reading, stretch.offset));
     }
     if !is_reading(reading) {
         return Err(Some(TzError::OutOfRange));

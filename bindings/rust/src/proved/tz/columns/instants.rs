@@ -110,6 +110,12 @@ const EMPTY: Stretch = Stretch {
     offset: 0,
 };
 
+/// The instant at which clocks with an offset show a reading.
+#[inline(always)]
+fn shown_by(reading: i64, offset: i32) -> i64 {
+    reading - i64::from(offset)
+}
+
 /// The first reading that can be in a stretch, if a type begins at an instant: the greatest offset
 /// after it, or the first reading of all.
 fn first_reading(from: i64, greatest: i32) -> i64 {
@@ -132,7 +138,7 @@ fn last_reading(last: i64, least: i32) -> i64 {
 /// the reading is in the stretch.
 fn stretch_around(zone: &ZoneData<'_>, reading: i64) -> Stretch {
     let (least, greatest) = zone.offsets();
-    let segment = zone.segment_at(reading - i64::from(greatest));
+    let segment = zone.segment_at(shown_by(reading, greatest));
     match segment.local_time_type() {
         Some(local_time_type) => Stretch {
             from: first_reading(segment.from(), greatest),
@@ -145,6 +151,7 @@ fn stretch_around(zone: &ZoneData<'_>, reading: i64) -> Stretch {
 
 /// The stretch in which a reading is looked for: the one before, or that around the reading, if it
 /// is near.
+#[inline(always)]
 fn stretch_near(zone: &ZoneData<'_>, before: Stretch, is_near: bool, reading: i64) -> Stretch {
     if before.from <= reading && reading <= before.last {
         return before;
@@ -164,7 +171,7 @@ fn instant_in(
     zone: &ZoneData<'_>,
 ) -> Result<i64, Option<TzError>> {
     if stretch.from <= reading && reading <= stretch.last {
-        return Ok(reading - i64::from(stretch.offset));
+        return Ok(shown_by(reading, stretch.offset));
     }
     if !is_reading(reading) {
         return Err(Some(TzError::OutOfRange));

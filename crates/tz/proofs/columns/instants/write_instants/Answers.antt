@@ -1,5 +1,5 @@
 -- Each turn answers one index more.
-use Rattle.tz.proofs.Common.{arith, ◌≡◌, rules, to_z-of_z, w64, SFits, ◌<◌, length, zone_of_data}
+use Rattle.tz.proofs.Common.{arith, ◌≡◌, ◌∙◌, rules, to_z-of_z, w64, SFits, ◌<◌, length, zone_of_data}
 use Rattle.std.proofs.lemmas.Option.{get_or_from_slice_get}
 use Rattle.tz.specs.InstantColumns.{HoldsInstantAt, IsInstantOf}
 use Rattle.tz.proofs.ColumnAnswers.{one_more}
@@ -15,7 +15,8 @@ loop-i-preserved g c =
     let fits : SFits w64 u = search rules in
     let holds : c.set.new.self ≡ g.S.InstantSlot.holding u = rw (to_z-of_z w64 u fits) at c.set.ensures in
     let answer : answer_at i c.set.new.self = λ x at.
-    (u, (rw (get_or_from_slice_get local i x _ at) at c.in-Ok.ensures.ok, holds)) in
+    let same = c.index-local-i.is ∙ get_or_from_slice_get local i x c.index-local-i.result at in
+    (u, rw same at c.in-Ok.ensures.ok, holds) in
     let within : i < length c.loop-i.slots =
     omega (arith, c.loop-i.invariant.length_is, c.requires.lengths, c.loop-i-test.true) in
     one_more answer_at c.args.first i c.args.slots.now c.loop-i.slots c.set.new.self
@@ -30,7 +31,9 @@ returns-in-Err-clause-err g c =
         omega (arith, c.loop-i.auto.i),
         omega (arith, c.requires.lengths, c.loop-i-test.true),
       );
-      none = λ x at. rw (get_or_from_slice_get local i x _ at) at c.in-Err.ensures.err;
+      none = λ x at.
+          let same = c.index-local-i.is ∙ get_or_from_slice_get local i x c.index-local-i.result at in
+          rw same at c.in-Err.ensures.err;
       up_to = c.loop-i.invariant;
     }
 

@@ -17,13 +17,7 @@ loop-i-preserved g c =
     let holds : c.set.new.self ≡ g.S.InstantSlot.holding u = rw (to_z-of_z w64 u fits) at c.set.ensures in
     let answer : answer_at i c.set.new.self = λ x at.
     let read : slice_index_or readings i (pos 0) ≡ x = get_or_from_slice_get readings i x (pos 0) at in
-    (
-      u,
-      (
-        rw (to_z-of_z w64 (slice_index_or readings i (pos 0)) reading_fits, read) at c.in-Ok.ensures.ok,
-        holds,
-      ),
-    ) in
+    (u, rw (to_z-of_z w64 (slice_index_or readings i (pos 0)) reading_fits, read) at c.in-Ok.ensures.ok, holds) in
     let within : i < length c.loop-i.slots =
     omega (arith, c.loop-i.invariant.1.length_is, c.requires.lengths, c.requires.block, c.loop-i-test.true) in (
       c.stretch_near-last.ensures,

@@ -77,7 +77,9 @@ returns-in_ok-shown_apart-in-Some-Jump c =
     let is : entry_meant c.args.disambiguation has.0 ≡ Some (Jump u a.now b.now) =
     sym has.3 ∙ ap (λ (e : Option BorrowedEntry). option_map entry_of e)
     (c.in-Some-Jump.is ∙ ap (λ (e : BorrowedEntry). Some e) c.in-Some-Jump.field-0-is) in
-    let instant = to_z-of_z w64 c.lookup_instant-unix_time.result (search rules) ∙ c.lookup_instant-unix_time.ensures in
+    let reading_is = to_z-of_z w64 c.args.reading c.ranges.reading ∙ c.requires.reading in
+    let instant = to_z-of_z w64 c.lookup_instant-unix_time.result (search rules)
+    ∙ (rw reading_is at c.lookup_instant-unix_time.ensures) in
     let shown = rw instant at c.in_ok-shown_apart-in-Some-Jump.ensures.ok in
     record {
       ok = jump_meant z f valid (has.0, has.1, has.2) c.args.disambiguation u a.now b.now is
@@ -100,7 +102,9 @@ returns-in_err-shown_apart-in-Some-Jump-clause-err c =
     let is : entry_meant c.args.disambiguation has.0 ≡ Some (Jump u a.now b.now) =
     sym has.3 ∙ ap (λ (e : Option BorrowedEntry). option_map entry_of e)
     (c.in-Some-Jump.is ∙ ap (λ (e : BorrowedEntry). Some e) c.in-Some-Jump.field-0-is) in
-    let instant = to_z-of_z w64 c.lookup_instant-unix_time.result (search rules) ∙ c.lookup_instant-unix_time.ensures in
+    let reading_is = to_z-of_z w64 c.args.reading c.ranges.reading ∙ c.requires.reading in
+    let instant = to_z-of_z w64 c.lookup_instant-unix_time.result (search rules)
+    ∙ (rw reading_is at c.lookup_instant-unix_time.ensures) in
     let residual = c.from_residual-in_err-shown_apart-in-Some-Jump in
     let p = err_from_is_err_and residual.result residual.ensures.1 in
     let fault = rw instant at c.in_err-shown_apart-in-Some-Jump.ensures.err in
