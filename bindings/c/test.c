@@ -1140,6 +1140,44 @@ static void test_reached(void) {
   }
 }
 
+/* The bytes of a file, and how many there are. */
+static size_t read_file(const char *path, uint8_t *bytes, size_t most) {
+  FILE *file = fopen(path, "rb");
+  if (file == NULL) {
+    fail(__FILE__, __LINE__, path, 0, 1);
+    return 0;
+  }
+  const size_t n = fread(bytes, 1, most, file);
+  fclose(file);
+  return n;
+}
+
+/* The zone of a file, and its tables. */
+typedef struct { tz_transition *transitions; tz_local_time_type *types; tz_leap_second *leaps; tz_rule rule; tz_zone zone; } read_zone;
+
+static void make_read_zone(const uint8_t *bytes, size_t n, read_zone *made) {
+  tz_sizes sizes = {0};
+  tz_offsets offsets = {0, 0};
+  CODE(tz_file_sizes(bytes, n, &sizes), TZ_OK);
+  made->transitions = calloc(sizes.transitions + 1, sizeof *made->transitions);
+  made->types = calloc(sizes.types + 1, sizeof *made->types);
+  made->leaps = calloc(sizes.leap_seconds + 1, sizeof *made->leaps);
+  memset(&made->rule, 0, sizeof made->rule);
+  CODE(tz_file_read(bytes, n, made->transitions, sizes.transitions, made->types, sizes.types, made->leaps, sizes.leap_seconds, &made->rule, &offsets),
+       TZ_OK);
+  const tz_rule *rule = &made->rule;
+  const tz_zone zone = {{made->transitions, sizes.transitions, made->types, sizes.types, made->leaps, sizes.leap_seconds, &rule->fixed,
+                         rule->kind == TZ_FIXED, &rule->alternate, rule->kind == TZ_ALTERNATE},
+                        offsets};
+  made->zone = zone;
+}
+
+static void free_read_zone(read_zone *made) {
+  free(made->transitions);
+  free(made->types);
+  free(made->leaps);
+}
+
 static void test_files(const char *path) {
   tz_sizes sizes = {0};
   tz_local_time_type types[1] = {{0}};
@@ -1161,25 +1199,16 @@ static void test_files(const char *path) {
   for (size_t n = 0; n < sizeof small_file; n++) REFUSED(tz_file_sizes(small_file, n, &sizes), TZ_FILE_UNEXPECTED_EOF, sizes);
 
   static uint8_t bytes[65536];
-  FILE *file = fopen(path, "rb");
-  if (file == NULL) {
-    fail(__FILE__, __LINE__, "the file", 0, 1);
-    return;
-  }
-  size_t n = fread(bytes, 1, sizeof bytes, file);
-  fclose(file);
+  const size_t n = read_file(path, bytes, sizeof bytes);
+  if (n == 0) return;
+  read_zone made;
+  make_read_zone(bytes, n, &made);
   CODE(tz_file_sizes(bytes, n, &sizes), TZ_OK);
-  tz_transition *transitions = calloc(sizes.transitions + 1, sizeof *transitions);
-  tz_local_time_type *list = calloc(sizes.types + 1, sizeof *list);
-  tz_leap_second *leaps = calloc(sizes.leap_seconds + 1, sizeof *leaps);
-  CODE(tz_file_read(bytes, n, transitions, sizes.transitions, list, sizes.types, leaps, sizes.leap_seconds, &rule, &offsets), TZ_OK);
-  tz_zone zone = {{transitions, sizes.transitions, list, sizes.types, leaps, sizes.leap_seconds, &rule.fixed, rule.kind == TZ_FIXED,
-                   &rule.alternate, rule.kind == TZ_ALTERNATE},
-                  offsets};
+  const tz_zone zone = made.zone;
   tz_offsets again = {0, 0};
   CODE(tz_zone_check(&zone.parts, &again), TZ_OK);
-  EXPECT(again.least, offsets.least);
-  EXPECT(again.greatest, offsets.greatest);
+  EXPECT(again.least, zone.offsets.least);
+  EXPECT(again.greatest, zone.offsets.greatest);
   /* The footer of Europe/Paris is that of the rule of central Europe. */
   tz_date_time shown = {0};
   char text[53];
@@ -1205,9 +1234,18 @@ static void test_files(const char *path) {
     free(l);
     free(s);
   }
-  free(transitions);
-  free(list);
-  free(leaps);
+  free_read_zone(&made);
+}
+
+/* A column of readings in the zone of a file. */
+static void test_readings_of_file(const char *path) {
+  static uint8_t bytes[65536];
+  const size_t n = read_file(path, bytes, sizeof bytes);
+  if (n == 0) return;
+  read_zone made;
+  make_read_zone(bytes, n, &made);
+  test_readings_of(&made.zone);
+  free_read_zone(&made);
 }
 
 int main(int argc, char **argv) {
@@ -1237,9 +1275,11 @@ int main(int argc, char **argv) {
   test_search_past_the_end();
   test_searches();
   test_columns();
+  test_readings();
   test_null();
   test_damaged_files();
-  if (argc == 2) test_files(argv[1]);
+  if (argc > 1) test_files(argv[1]);
+  for (int i = 1; i < argc; i++) test_readings_of_file(argv[i]);
   test_reached();
   if (failures == 0) printf("passed\n");
   return failures != 0;

@@ -36,6 +36,8 @@ typedef struct { tz_transition transitions[2]; tz_local_time_type types[3]; tz_a
 void make_zone(made_zone *made);
 
 void test_columns(void);
+void test_readings(void);
+void test_readings_of(const tz_zone *zone);
 void test_null(void);
 
 #endif

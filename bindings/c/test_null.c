@@ -33,10 +33,11 @@ static answers answers_of(const tz_zone *zone, int64_t unix_time) {
   tz_found slots[SLOTS];
   tz_offsets offsets = {0, 0};
   size_t place = 77, count = 77;
-  int64_t leap_time = 77, effect = 77, instant = 77;
+  int64_t leap_time = 77, effect = 77, instants[2] = {77, 77};
   int32_t offset = 77;
   const uint32_t nanoseconds = 5;
-  tz_code codes[3] = {777, 777, 777};
+  const int64_t reading = 972786600;
+  tz_code codes[4] = {777, 777, 777, 777};
   const tz_fields fields = fields_of(2000, 10, 29, 2, 30, 0, 5);
   memset(slots, 0, sizeof slots);
   add(&all, code_of(tz_zone_check(&zone->parts, &offsets)));
@@ -52,7 +53,8 @@ static answers answers_of(const tz_zone *zone, int64_t unix_time) {
   add(&all, code_of(tz_find_one(&fields, TZ_LATER, zone, &one)));
   CODE(tz_column_offsets(&unix_time, 1, zone, &offset, 1, &codes[0], 1), TZ_OK);
   CODE(tz_column_date_times(&unix_time, 1, &nanoseconds, 1, zone, &column, 1, &codes[1], 1), TZ_OK);
-  CODE(tz_column_instants(&fields, 1, TZ_LATER, zone, &instant, 1, &codes[2], 1), TZ_OK);
+  CODE(tz_column_instants(&fields, 1, TZ_LATER, zone, &instants[0], 1, &codes[2], 1), TZ_OK);
+  CODE(tz_column_instants_of_readings(&reading, 1, TZ_LATER, zone, &instants[1], 1, &codes[3], 1), TZ_OK);
   add(&all, offsets.least);
   add(&all, offsets.greatest);
   add_type(&all, &type);
@@ -73,8 +75,8 @@ static answers answers_of(const tz_zone *zone, int64_t unix_time) {
   add_date_time(&all, &one);
   add(&all, offset);
   add(&all, column.unix_time);
-  add(&all, instant);
-  for (size_t i = 0; i < 3; i++) add(&all, codes[i]);
+  for (size_t i = 0; i < 2; i++) add(&all, instants[i]);
+  for (size_t i = 0; i < 4; i++) add(&all, codes[i]);
   return all;
 }
 
@@ -172,6 +174,7 @@ static void test_null_parameters(void) {
   CODE(tz_column_offsets(NULL, 0, &made.zone, NULL, 0, NULL, 0), TZ_OK);
   CODE(tz_column_date_times(NULL, 0, NULL, 0, &made.zone, NULL, 0, NULL, 0), TZ_OK);
   CODE(tz_column_instants(NULL, 0, TZ_REJECT, &made.zone, NULL, 0, NULL, 0), TZ_OK);
+  CODE(tz_column_instants_of_readings(NULL, 0, TZ_REJECT, &made.zone, NULL, 0, NULL, 0), TZ_OK);
   REFUSED(tz_utc_text(&utc, NULL, 0, &length), TZ_BUFFER_LENGTH, length);
   REFUSED(tz_date_time_text(&date_time, NULL, 0, &length), TZ_BUFFER_LENGTH, length);
   REFUSED(tz_date_time_format(&date_time, "%Y", 2, NULL, 0, &length), TZ_BUFFER_LENGTH, length);

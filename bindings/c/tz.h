@@ -503,8 +503,8 @@ tz_code tz_find_one(const tz_fields *fields, uint8_t choice, const tz_zone *zone
 
 /* Each of these calls answers a whole column. Place i of `codes` gets the code that the call for one value would return: if it is TZ_OK, place i of
    the column that is written to gets the value, and else stays as it is. All columns have one length: if they differ the call returns
-   TZ_BUFFER_LENGTH, or TZ_UNKNOWN_CHOICE if the choice is unknown too, and nothing is written. Instants may come in any order. Those in order are fastest, since a span of instants in which the clock
-   does not change is searched once, and the date of a day is found once. */
+   TZ_BUFFER_LENGTH, or TZ_UNKNOWN_CHOICE if the choice is unknown too, and nothing is written. Instants and readings may come in any order. Those in
+   order are fastest, since a span of instants in which the clock does not change is searched once, and the date of a day is found once. */
 
 /* The offsets of the zone's clock at instants, in seconds. Returns TZ_OK or TZ_BUFFER_LENGTH, and writes the codes of `tz_zone_type_at`. */
 tz_code tz_column_offsets(const int64_t *unix_times, size_t unix_times_length, const tz_zone *zone, int32_t *offsets, size_t offsets_length,
@@ -519,6 +519,12 @@ tz_code tz_column_date_times(const int64_t *unix_times, size_t unix_times_length
    of `tz_find_one`. */
 tz_code tz_column_instants(const tz_fields *fields, size_t fields_length, uint8_t choice, const tz_zone *zone, int64_t *unix_times,
                            size_t unix_times_length, tz_code *codes, size_t codes_length);
+
+/* The instants that readings mean by a choice. A reading is a local time as a number: the seconds that the zone's clock shows, counted from
+   1970-01-01T00:00:00 as if its offset were zero. Its answer is that of `tz_column_instants` for its fields with nanoseconds 0, or TZ_OUT_OF_RANGE
+   if its year is outside 32 bits. Returns TZ_OK, TZ_UNKNOWN_CHOICE or TZ_BUFFER_LENGTH, and writes the codes of `tz_find_one`. */
+tz_code tz_column_instants_of_readings(const int64_t *readings, size_t readings_length, uint8_t choice, const tz_zone *zone, int64_t *unix_times,
+                                       size_t unix_times_length, tz_code *codes, size_t codes_length);
 
 /* ---- Text ----------------------------------------------------------------------------------------------------------------------------- */
 

@@ -321,6 +321,14 @@ export interface Functions {
    */
   tz_column_instants(fields: Pointer<'tz_fields'>, fields_length: number, choice: number, zone: Pointer<'tz_zone'>, unix_times: Pointer<'int64_t'>, unix_times_length: number, codes: Pointer<'tz_code'>, codes_length: number): Code;
   /**
+   * The instants that readings mean by a choice. A reading is a local time as a number: the seconds
+   * that the zone's clock shows, counted from 1970-01-01T00:00:00 as if its offset were zero. Its
+   * answer is that of `tz_column_instants` for its fields with nanoseconds 0, or TZ_OUT_OF_RANGE if
+   * its year is outside 32 bits. Returns TZ_OK, TZ_UNKNOWN_CHOICE or TZ_BUFFER_LENGTH, and writes
+   * the codes of `tz_find_one`.
+   */
+  tz_column_instants_of_readings(readings: Pointer<'int64_t'>, readings_length: number, choice: number, zone: Pointer<'tz_zone'>, unix_times: Pointer<'int64_t'>, unix_times_length: number, codes: Pointer<'tz_code'>, codes_length: number): Code;
+  /**
    * `year-MM-DDThh:mm:ss.nnnnnnnnn` and `Z` or the offset, and its length: at most 53 bytes, and no
    * zero follows them. TZ_BUFFER_LENGTH.
    */

@@ -180,6 +180,7 @@ const FUNCTIONS = {
   tz_column_offsets: 7,
   tz_column_date_times: 9,
   tz_column_instants: 8,
+  tz_column_instants_of_readings: 8,
   tz_utc_text: 4,
   tz_date_time_text: 4,
   tz_date_time_read: 3,

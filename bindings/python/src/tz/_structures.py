@@ -278,6 +278,7 @@ CALLS = {
     "tz_column_offsets": (c_uint32, c_void_p, c_size_t, POINTER(Zone), c_void_p, c_size_t, c_void_p, c_size_t),
     "tz_column_date_times": (c_uint32, c_void_p, c_size_t, c_void_p, c_size_t, POINTER(Zone), c_void_p, c_size_t, c_void_p, c_size_t),
     "tz_column_instants": (c_uint32, c_void_p, c_size_t, c_uint8, POINTER(Zone), c_void_p, c_size_t, c_void_p, c_size_t),
+    "tz_column_instants_of_readings": (c_uint32, c_void_p, c_size_t, c_uint8, POINTER(Zone), c_void_p, c_size_t, c_void_p, c_size_t),
     "tz_utc_text": (c_uint32, POINTER(Utc), c_void_p, c_size_t, POINTER(c_size_t)),
     "tz_date_time_text": (c_uint32, POINTER(DateTime), c_void_p, c_size_t, POINTER(c_size_t)),
     "tz_date_time_read": (c_uint32, c_char_p, c_size_t, POINTER(Parsed)),
