@@ -56,6 +56,9 @@ class Answers(unittest.TestCase):
             unique = zone.instants(times, "reject", codes=codes)
             for choice, column in (("earlier", earlier), ("later", later)):
                 self.assertEqual(zone.instants(fields, choice), column)
+            codes_of_fields = array("I", [9] * len(times))
+            self.assertEqual(zone.instants(fields, "reject", codes=codes_of_fields), unique)
+            self.assertEqual(codes_of_fields, codes)
             for index, seconds in enumerate(times):
                 dt = EPOCH + seconds * SECOND
                 folds = [dt - zone.utcoffset(dt.replace(fold=fold)) for fold in (0, 1)]
@@ -87,8 +90,8 @@ class Answers(unittest.TestCase):
                 paris.instants(array("q", [0]), choice)
 
     def test_codes_and_what_stays(self):
-        """Refused places at both ends of each part that is converted at a time."""
-        length = 3 * _columns._AT_A_TIME + 7
+        """Refused places at both ends of a column and within it, alone and beside others."""
+        length = 10000
         times, out = array("q", range(length)), array("q", [-1]) * length
         refused = {0, 1, 4095, 4096, 5000, 8191, 8192, length - 1}
         for place in refused:

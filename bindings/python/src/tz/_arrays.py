@@ -5,12 +5,12 @@ numpy and pandas are found by what the caller passes, and never imported.
 
 import sys
 from array import array
-from ctypes import byref, sizeof
+from ctypes import byref
 from typing import Any, Callable, NamedTuple, Optional
 
 from . import _columns, _library
 from ._library import OK, TzError, check
-from ._structures import DateTime, LocalTime, Zone
+from ._structures import LocalTime, Zone
 
 _TICKS = {
     "s": 1,
@@ -142,25 +142,10 @@ def instants(zone: Zone, local_times: Any, choice: int, out: Any, codes: Any) ->
         answer = _columns.instants(zone, column, choice, out, codes)
         return _like(local_times)(answer) if out is None else answer
 
-    numpy = sys.modules["numpy"]
-    most = min(len(given.values), _AT_A_TIME)
-    date_times = numpy.zeros((most, sizeof(DateTime) // 8), "uint64")
-    fields = numpy.zeros((most, sizeof(LocalTime) // 8), "uint64")
-    nanoseconds = numpy.zeros(most, "uint32")
-
     def fill(seconds: Any, values: Any, codes: Any, answer: Any) -> None:
-        # The fields of local times are the first words of the date times of UTC.
-        length, words = len(seconds), fields.shape[1]
-        columns = _pairs(seconds, nanoseconds[:length])
-        answers = _pairs(date_times[:length], codes)
-        check(_library.column_date_times(*columns, byref(_columns.utc), *answers))
-        fields[:length] = date_times[:length, :words]
-        outside = codes.nonzero()[0]
         found = seconds.copy()  # Places that are refused stay as they are.
-        answers = _pairs(found, codes)
-        read = _pairs(fields[:length])
-        check(_library.column_instants(*read, choice, byref(zone), *answers))
-        codes[outside] = _OUT_OF_RANGE
+        read, answers = _pairs(seconds), _pairs(found, codes)
+        check(_library.column_instants_of_readings(*read, choice, byref(zone), *answers))
         _shift(values, found - seconds, given.ticks, codes, answer)
 
     return _answers(given, given.dtype, out, codes, fill)

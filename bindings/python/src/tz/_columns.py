@@ -3,13 +3,13 @@
 import re
 import sys
 from array import array
-from ctypes import addressof, byref, c_char, c_uint32, sizeof
+from ctypes import addressof, byref, c_char
 from itertools import combinations
-from typing import Any, Optional, Sequence, Tuple
+from typing import Any, Optional
 
 from . import _library
 from ._library import OK, TzError, check
-from ._structures import DateTime, LocalTime, LocalTimeType, Parts, Zone
+from ._structures import LocalTime, Zone
 
 _ORDER = "[@=<]?" if sys.byteorder == "little" else "[@=>!]?"
 # The fields of a LocalTime as numpy and ctypes describe them. Some ctypes leave out the padding
@@ -18,16 +18,14 @@ _BYTES_OF_A_TIME = "month", "month_day", "hour", "minute", "second"
 _BYTE_FIELDS = "".join(rf"{_ORDER}B:{name}:" for name in _BYTES_OF_A_TIME)
 _FIELDS = rf"T{{{_ORDER}[il]:year:{_BYTE_FIELDS}((3x|xxx){_ORDER}|(?!=){_ORDER})[IL]:nanoseconds:}}"
 _INT64, _INT32 = "64-bit signed integers", "32-bit signed integers"
-_UINT32, _BYTES = "32-bit unsigned integers", "bytes"
+_UINT32 = "32-bit unsigned integers"
 # What columns hold: its formats, its size and its alignment.
 _KINDS = {
     _INT64: (re.compile(_ORDER + "[qln]"), 8, 8),
     _INT32: (re.compile(_ORDER + "[il]"), 4, 4),
     _UINT32: (re.compile(_ORDER + "[IL]"), 4, 4),
     LocalTime.__name__: (re.compile(_FIELDS), 16, 4),
-    _BYTES: (re.compile("B"), 1, 1),
 }
-_AT_A_TIME = 4096
 
 
 class _Column:
@@ -77,16 +75,11 @@ def _refuse_overlap(*columns: _Column) -> None:
             raise ValueError(f"{one.name} and {other.name} overlap")
 
 
-def _refused(codes: "array[int]") -> Sequence[int]:
-    """The places of codes that are not TZ_OK."""
-    if codes.tobytes() == bytes(codes.itemsize * len(codes)):
-        return ()
-    return [index for index, code in enumerate(codes) if code != OK]
-
-
 def _raise_first(codes: "array[int]") -> None:
-    for index in _refused(codes):
-        raise TzError(codes[index], index=index)
+    """Raises the error of the first code that is not TZ_OK."""
+    if codes.tobytes() != bytes(codes.itemsize * len(codes)):
+        index, code = next(pair for pair in enumerate(codes) if pair[1] != OK)
+        raise TzError(code, index=index)
 
 
 def offsets(zone: Zone, instants: Any, out: Any, codes: Any) -> Any:
@@ -114,46 +107,10 @@ def instants(zone: Zone, local_times: Any, choice: int, out: Any, codes: Any) ->
     written = _Column("out", out, _INT64, length=length)
     answers = _Column("codes", own, _UINT32, length=length)
     _refuse_overlap(read, written, answers)
-    out_of_range = array("I")
-    if read.kind == _INT64:
-        read, out_of_range = _local_times_of(read)
+    is_of_seconds = read.kind == _INT64
+    call = _library.column_instants_of_readings if is_of_seconds else _library.column_instants
     columns = written.address, length, answers.address, length
-    check(_library.column_instants(read.address, length, choice, byref(zone), *columns))
-    for index in _refused(out_of_range):
-        c_uint32.from_address(answers.address + 4 * index).value = out_of_range[index]
+    check(call(read.address, length, choice, byref(zone), *columns))
     if codes is None:
         _raise_first(own)
     return out
-
-
-_utc_type = LocalTimeType()
-utc = Zone(Parts(types=addressof(_utc_type), types_length=1))
-check(_library.zone_check(utc.parts, utc.offsets))
-
-
-def _local_times_of(seconds: _Column) -> Tuple[_Column, "array[int]"]:
-    """The local times of a column of seconds, and the code of each that is out of range.
-
-    They are the first words of the date times of UTC at these seconds, and are copied some
-    thousands at a time, which a processor's cache holds.
-    """
-    to, step = sizeof(LocalTime) // 8, sizeof(DateTime) // 8
-    local_times = bytearray(seconds.length * sizeof(LocalTime))
-    date_times = bytearray(_AT_A_TIME * sizeof(DateTime))
-    words, shown = memoryview(local_times).cast("Q"), memoryview(date_times).cast("Q")
-    codes = _new("I", seconds.length)
-    nanoseconds = _Column("", _new("I", _AT_A_TIME), _UINT32)
-    slots, answers = _Column("", date_times, _BYTES), _Column("", codes, _UINT32)
-    for start in range(0, seconds.length, _AT_A_TIME):
-        count = min(_AT_A_TIME, seconds.length - start)
-        check(
-            _library.column_date_times(
-                seconds.address + 8 * start, count, nanoseconds.address, count, byref(utc),
-                slots.address, count, answers.address + 4 * start, count,
-            )
-        )  # fmt: skip
-        for word in range(to):
-            words[start * to + word : (start + count) * to : to] = shown[word : count * step : step]
-    for index in _refused(codes):
-        local_times[index * sizeof(LocalTime) + LocalTime.month.offset] = 0  # no month
-    return _Column("", local_times, _BYTES), codes

@@ -45,8 +45,7 @@ following = _call("tz_zone_following", quick=True)
 preceding = _call("tz_zone_preceding", quick=True)
 start_of_day = _call("tz_zone_start_of_day", quick=True)
 find_n = _call("tz_find_n", quick=True)
-column_offsets, column_date_times = _call("tz_column_offsets"), _call("tz_column_date_times")
-column_instants = _call("tz_column_instants")
+column_offsets, column_instants = _call("tz_column_offsets"), _call("tz_column_instants")
 column_instants_of_readings = _call("tz_column_instants_of_readings")
 # Of tz_zones.h, which the library may be built without.
 if hasattr(_library, "tz_built_in"):
