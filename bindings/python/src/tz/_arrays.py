@@ -22,7 +22,8 @@ _NAT, _GREATEST = -(1 << 63), (1 << 63) - 1
 _INTEGER_CODES = "bBhHiIlLqQ"
 _OUT_OF_RANGE = 1
 # How many values are converted at a time: what is computed of them stays in a processor's cache.
-_AT_A_TIME = 1 << 14
+# An array of twice as many has 128 KiB, for which glibc asks the system for memory each time.
+_AT_A_TIME = 1 << 13
 
 # Writes answers of some seconds, which are those of the values, and the codes of what is refused.
 _Fill = Callable[[Any, Any, Any, Any], None]
