@@ -4,7 +4,7 @@
 #include <stdio.h>
 #include <stdlib.h>
 
-enum { MOST = 40, LONGEST = 8192 };
+enum { MOST = 40, BESIDE = 11, LONGEST = 8192 };
 
 /* The first and the last second of the years of 32 bits. */
 #define LEAST INT64_C(-67768100567971200)
@@ -38,17 +38,20 @@ static void compare_by_each_choice(const tz_zone *zone, const int64_t *readings,
   for (uint8_t choice = TZ_COMPATIBLE; choice <= TZ_REJECT; choice++) compare(zone, choice, readings, n);
 }
 
-/* The readings at both sides of each change from 1843 to 2100, a second beside these, and halfway. */
+/* The readings at both sides of each change from 1843 to 2100, a second beside these, halfway, and those that the zone's least and greatest offset
+   would show at the change and a second before. */
 static size_t put_readings_beside_changes(const tz_zone *zone, int64_t *readings) {
   tz_change change = {0};
-  int64_t from = -4000000000;
+  int64_t at = -4000000000;
   size_t n = 0;
-  while (n + 7 <= LONGEST && tz_zone_following(zone, from, &change) == TZ_OK && change.unix_time < 4102444800) {
-    const int64_t before = change.unix_time + change.before.ut_offset, after = change.unix_time + change.after.ut_offset;
-    const int64_t beside[] = {before - 1, before, before + 1, before / 2 + after / 2, after - 1, after, after + 1};
+  while (n + BESIDE <= LONGEST && tz_zone_following(zone, at, &change) == TZ_OK && change.unix_time < 4102444800) {
+    at = change.unix_time;
+    const int64_t before = at + change.before.ut_offset, after = at + change.after.ut_offset;
+    const int64_t first = at + zone->offsets.least, last = at + zone->offsets.greatest;
+    const int64_t halfway = before / 2 + after / 2;
+    const int64_t beside[BESIDE] = {first - 1, first, before - 1, before, before + 1, halfway, after - 1, after, after + 1, last - 1, last};
     memcpy(readings + n, beside, sizeof beside);
-    n += 7;
-    from = change.unix_time;
+    n += BESIDE;
   }
   return n;
 }
@@ -58,7 +61,7 @@ static int order(const void *one, const void *other) {
   return (a > b) - (a < b);
 }
 
-/* Columns in the order of changes, in that of readings, backwards and in none. */
+/* Columns in the order of changes, in none, in that of readings, backwards, and in order but for some. */
 static void test_changes(const tz_zone *zone) {
   static int64_t readings[LONGEST], others[LONGEST];
   const size_t n = put_readings_beside_changes(zone, readings);
@@ -70,12 +73,18 @@ static void test_changes(const tz_zone *zone) {
   compare_by_each_choice(zone, others, n);
   for (size_t i = 0; i < n; i++) readings[i] = others[n - 1 - i];
   compare_by_each_choice(zone, readings, n);
+  for (size_t i = 0; i + 5 < n; i += 43) {
+    const int64_t first = others[i];
+    others[i] = others[i + 5];
+    others[i + 5] = first;
+  }
+  compare_by_each_choice(zone, others, n);
 }
 
 /* Columns of each length up to 40 with all kinds of answers: in a fold and a gap, beside both, and at the ends of years. */
 static void test_kinds(const tz_zone *zone) {
-  const int64_t kinds[] = {gap, fold, 0, -1, gap - 1801, gap + 1800, fold - 1801, INT64_MIN, INT64_MIN + 1, INT64_MAX, INT64_MAX - 1, LEAST - 1, LEAST,
-                           LEAST + 1, LEAST + 90000, GREATEST - 90000, GREATEST - 1, GREATEST, GREATEST + 1, fold + 1800, 4102444800};
+  const int64_t kinds[] = {gap, fold, 0, -1, gap - 1801, gap + 1800, fold - 1801, INT64_MIN, INT64_MIN + 1, INT64_MAX, INT64_MAX - 1, LEAST - 1,
+                           LEAST, LEAST + 1, LEAST + 90000, GREATEST - 90000, GREATEST - 1, GREATEST, GREATEST + 1, fold + 1800, 4102444800};
   enum { KINDS = sizeof kinds / sizeof *kinds };
   int64_t readings[MOST];
   for (size_t n = 0; n <= MOST; n++) {
