@@ -91,10 +91,13 @@ static void test_kinds(const tz_zone *zone) {
     for (size_t i = 0; i < n; i++) readings[i] = kinds[(i * 8) % KINDS];
     compare_by_each_choice(zone, readings, n);
   }
-  /* Each beside each. */
+  /* Each after one of each, and after many. */
   for (size_t i = 0; i < KINDS * KINDS; i++) {
-    const int64_t pair[] = {kinds[i / KINDS], kinds[i % KINDS]};
-    compare_by_each_choice(zone, pair, 2);
+    enum { MANY = MOST / 2 };
+    for (size_t at = 0; at < MANY; at++) readings[at] = kinds[i / KINDS];
+    readings[MANY] = kinds[i % KINDS];
+    compare_by_each_choice(zone, readings + MANY - 1, 2);
+    compare_by_each_choice(zone, readings, MANY + 1);
   }
 }
 
