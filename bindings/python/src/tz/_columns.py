@@ -26,6 +26,7 @@ _KINDS = {
     _UINT32: (re.compile(_ORDER + "[IL]"), 4, 4),
     LocalTime.__name__: (re.compile(_FIELDS), 16, 4),
 }
+_ALL_OK = bytes(1 << 14)  # codes
 
 
 class _Column:
@@ -76,10 +77,17 @@ def _refuse_overlap(*columns: _Column) -> None:
 
 
 def _raise_first(codes: "array[int]") -> None:
-    """Raises the error of the first code that is not TZ_OK."""
-    if codes.tobytes() != bytes(codes.itemsize * len(codes)):
-        index, code = next(pair for pair in enumerate(codes) if pair[1] != OK)
-        raise TzError(code, index=index)
+    """Raises the error of the first code that is not TZ_OK.
+
+    It compares a part at a time: a copy of a whole column costs more than its answers do, by the
+    memory that the system clears for it.
+    """
+    view, step = memoryview(codes), len(_ALL_OK) // codes.itemsize
+    for start in range(0, len(codes), step):
+        part = view[start : start + step]
+        if not _ALL_OK.startswith(part.tobytes()):
+            index, code = next(pair for pair in enumerate(part, start) if pair[1] != OK)
+            raise TzError(code, index=index)
 
 
 def offsets(zone: Zone, instants: Any, out: Any, codes: Any) -> Any:
