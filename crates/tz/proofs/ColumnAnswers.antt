@@ -1,6 +1,6 @@
 -- Answers of one part of a column after those of another, at one more index, and of a block in one segment.
-use Rattle.tz.proofs.Common.{arith, refl, ◌≡◌, ◌∙◌, sym, inl, inr, subst, [], ap, ℕ, ℤ, ◌∷◌, ◌<◌, ◌≤ℤ◌, List, length, ◌+◌, ◌-◌, Some, Option, ◌≤◌, suc, zero, ◌≢◌, cases_lt, slice_get, get_or, same_Some, Zone, LocalTimeType, IsClock, TzError}
-use Rattle.std.proofs.lemmas.List.{length-set}
+use Rattle.tz.proofs.Common.{arith, refl, ◌≡◌, ◌∙◌, sym, inl, inr, subst, [], ap, ℕ, ℤ, ◌∷◌, ◌<◌, ◌≤ℤ◌, List, length, ◌+◌, ◌-◌, Some, Option, ◌≤◌, suc, zero, ◌≢◌, cases_lt, slice_get, slice_index_or, get_or, same_Some, Zone, LocalTimeType, IsClock, TzError}
+use Rattle.std.proofs.lemmas.List.{length-set, set-get_or}
 use Rattle.std.proofs.lemmas.List.Edits.{get_or-between, length-between}
 use Rattle.std.proofs.lemmas.Option.{get_or_from_slice_get, slice_get_read}
 use Rattle.std.specs.List.{between}
@@ -21,6 +21,10 @@ set_other (x ∷ xs) zero zero v other = absurd (other refl)
 set_other (x ∷ xs) zero (suc j) v other = refl
 set_other (x ∷ xs) (suc i) zero v other = refl
 set_other (x ∷ xs) (suc i) (suc j) v other = set_other xs i j v (λ e. other (ap suc e))
+
+-- an element that is set to what it was
+pub set_back : {V : Type 0} (xs : List V) (i : ℕ) (v d : V) → v ≡ slice_index_or xs i d → slice_set xs i v ≡ xs
+set_back xs i v d same = rw same (set-get_or xs i d)
 
 module _ {V : Type 0} (IsAnswerAt : ℕ → V → Type 0) where
   pub and_then : (first middle end : ℕ) (xs ys zs : List V) → first ≤ middle → middle ≤ end
@@ -53,7 +57,7 @@ module _ {V : Type 0} (IsAnswerAt : ℕ → V → Type 0) where
           rw (same, sym (same_Some v w both)) is
 
   -- what is an answer in one sense is one in another
-  in_other_words : (IsAnswerToo : ℕ → V → Type 0) (first end : ℕ) (xs ys : List V)
+  pub in_other_words : (IsAnswerToo : ℕ → V → Type 0) (first end : ℕ) (xs ys : List V)
       → ((i : ℕ) (v : V) → first ≤ i → i < end → IsAnswerAt i v → IsAnswerToo i v)
       → AreAnswered IsAnswerAt first end xs ys → AreAnswered IsAnswerToo first end xs ys
   in_other_words IsAnswerToo first end xs ys weaker all = record {

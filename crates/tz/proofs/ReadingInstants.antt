@@ -1,5 +1,5 @@
 -- The instant that a reading means, by the entries that it has.
-use Rattle.tz.proofs.Common.{arith, refl, ◌≡◌, subst, ints, inr, sym, inl, [], ap, ℕ, ◌∷◌, List, ℤ, Fields, IsClock, Some, Zone, ◌-ℤ◌, ◌≤ℤ◌, None, Option, LocalTimeType, reading, Shown, Jump, Entry, Clock, DateTime, IsReading, IsCivil, TzError, IsEntryInside, ShowsByClock, All, All-nil, All-cons, Disambiguation, IsClockFault, moment_of, instant_between, AreEntries, AreLeapSeconds, AreOffsetsOf, IsRefused, IsOutsideFault}
+use Rattle.tz.proofs.Common.{arith, refl, ◌≡◌, subst, ints, inr, sym, inl, [], ℕ, ◌∷◌, List, ℤ, Fields, IsClock, Some, Zone, ◌-ℤ◌, ◌≤ℤ◌, None, Option, LocalTimeType, reading, Shown, Jump, Entry, Clock, DateTime, IsReading, IsCivil, TzError, IsEntryInside, ShowsByClock, All, All-nil, All-cons, Disambiguation, IsClockFault, moment_of, instant_between, AreEntries, AreLeapSeconds, AreOffsetsOf, IsRefused, IsOutsideFault}
 use Rattle.tz.specs.EntryEnds.{entry_meant}
 use Rattle.tz.specs.InstantColumns.{HasNoInstantOfReading, IsInstantOfReading}
 use Rattle.tz.proofs.CivilFields.{civil_exists}

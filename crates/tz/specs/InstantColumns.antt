@@ -12,6 +12,7 @@ use Rattle.tz.specs.Choices.{IsMeaning, IsMeaningFault}
 use Rattle.tz.specs.Columns.{AreAnswered}
 use Rattle.tz.specs.DateTimes.{DateTime}
 use Rattle.tz.specs.Found.{EachCanBeMade}
+use Rattle.tz.specs.Windows.{IsSmall}
 use Rattle.tz.specs.declared.columns.instants.NoInstant.{NoInstant}
 use Rattle.tz.specs.declared.columns.instants.Stretch.{Stretch}
 use Rattle.tz.specs.declared.datetime.disambiguation.Disambiguation.{Disambiguation}
@@ -58,7 +59,16 @@ HasNoInstantOfReading z choice r e =
     (IsReading r × ((f : Fields) × IsCivil r 0 f × HasNoInstant z choice f e))
     ⊎ ((e ≡ Some faults.OutOfRange) × ¬ IsReading r)
 
--- by all choices each reading of a stretch means the instant that is as much before it as its offset
+-- by all choices each reading of a stretch means the instant that is as much before it as its
+-- offset
 abbrev pub IsStretch : Zone → Stretch → Type 0
 IsStretch z s = (r : ℤ) (choice : Disambiguation) → s.from ≤ℤ r → r ≤ℤ s.last
     → IsInstantOfReading z choice r (r -ℤ s.offset)
+
+-- the readings of a stretch are small
+abbrev pub AreSmall : Stretch → Type 0
+AreSmall s = (r : ℤ) → s.from ≤ℤ r → r ≤ℤ s.last → IsSmall r
+
+-- the reading is in the stretch, and this is the instant at which its offset shows it
+abbrev pub IsShownIn : Stretch → ℤ → ℤ → Type 0
+IsShownIn s r u = (s.from ≤ℤ r) × (r ≤ℤ s.last) × (u ≡ r -ℤ s.offset)
