@@ -227,6 +227,10 @@ OPEN_FIELDS = {
 ALLOWED = {
     # A proof reads the field.
     "crates/tz/src/datetime/find.rt": {"Refused": ("dead_code",)},
+    "crates/tz/src/columns/date_times.rt": {
+        "fields_at": ("clippy::manual_range_contains",),
+        "write_date_time": ("clippy::question_mark",),
+    },
     "crates/tz/src/parse.rt": {"read_printed": ("clippy::manual_range_contains",)},
     "crates/tz_base/src/calendar.rt": {"days_before_moved_year": ("clippy::manual_div_ceil",)},
     "crates/tz_base/src/text_buffer.rt": {

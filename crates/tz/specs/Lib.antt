@@ -29,4 +29,5 @@ pub mod Choices
 pub mod Meanings
 pub mod EntryEnds
 pub mod Columns
+pub mod DateTimeColumns
 pub mod InstantColumns

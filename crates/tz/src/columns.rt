@@ -12,7 +12,8 @@ ghost use Rattle.tz_zone.specs.Clock.{IsClock, IsLookupFault};
 ghost use Rattle.tz_zone.specs.ZoneOfData.{zone_of_data};
 ghost use Rattle.tz.specs.Columns.{AreAnswered, AreInSegment, IsFirstUnanswered, IsOffsetAt, IsOffsetFaultAt};
 
-pub(crate) mod instants;
+pub mod date_times;
+pub mod instants;
 
 use tz_base::error::TzError;
 use tz_rule::timezone::LocalTimeType;
@@ -58,6 +59,7 @@ fn holds_all(segment: &Segment<'_>, unix_times: &[i64]) -> bool
 
 /// The segment of the zone's clock that holds an instant: the one before, if it holds the instant
 /// too.
+#[inline(always)]
 fn segment_around<'a>(zone: &ZoneData<'a>, before: Segment<'a>, unix_time: i64) -> Segment<'a>
     requires { IsTrueSegment (zone_of_data zone.now) (segment_of before) }
     ensures segment { IsTrueSegment (zone_of_data zone.now) (segment_of result) }

@@ -1,6 +1,7 @@
 //! For the crates above and their tests, and no part of the public surface: fields, texts, searches
 //! for fields and the slots that they fill, columns, and readers of bytes.
 
+pub use crate::columns::date_times::{DateTimeSlot, write_date_times};
 pub use crate::columns::instants::{NoInstant, write_instants, write_instants_of_readings};
 pub use crate::columns::{Unanswered, write_offsets};
 pub use crate::datetime::date_time::fields_of;

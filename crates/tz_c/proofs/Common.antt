@@ -20,7 +20,7 @@ pub use Rattle.tz_zone.specs.Clock.{IsClock, IsLookupFault, IsTypeAfter, IsOver,
 pub use Rattle.tz_zone.specs.Offsets.{AreEndOffsets}
 pub use Rattle.tz_zone.specs.Table.{Zone}
 pub use Rattle.tz_c.specs.Codes.{code_of, IsAnswer, IsAnswerOr, buffer_length, fields_code, number_code}
-pub use Rattle.tz_c.specs.Columns.{IsDateTimeAt, IsInstantAt, IsOffsetAt, AreAnswers, AreInstantsBy, AreOfLength, IsDay, IsInstantAnswer}
+pub use Rattle.tz_c.specs.Columns.{IsDateTimeAt, IsInstantAt, IsOffsetAt, AreAnswers, AreInstantsBy, AreOfLength, IsInstantAnswer}
 pub use Rattle.tz_c.specs.DateTimes.{IsChoiceAnswer, choice_of, IsDateTimeDataOf, IsMeaningAnswer}
 pub use Rattle.tz_c.specs.ErrorTexts.{error_text, text_of_code, texts, number_text, text_in}
 pub use Rattle.tz_c.specs.Texts.{IsRuleTextAnswer, IsTextAnswer}

@@ -2,7 +2,6 @@ mod Common
 pub mod AnswersInTurn
 pub mod ColumnInstants
 pub mod ClockIndexes
-pub mod DaySeconds
 pub mod CodeTexts
 pub mod NameBytes
 pub mod SingleCalls

@@ -1,10 +1,8 @@
 -- What calls over whole columns answer: at each index what the call for one value does.
-use Rattle.std.specs.Prelude.{FitsSigned, ◌≡◌, ◌≢◌, ◌⊎◌, ℕ, ◌≤◌, ℤ, pos, negsuc, ◌+ℤ◌, ◌*ℤ◌, ◌≤ℤ◌, ◌<ℤ◌, List, length, Option, Some, None, slice_get}
+use Rattle.std.specs.Prelude.{FitsSigned, ◌≡◌, ◌≢◌, ◌⊎◌, ℕ, ◌≤◌, ℤ, List, length, Option, Some, None, slice_get}
 use Rattle.std.specs.Int.{w32}
 use Rattle.tz_base.specs.declared.error.TzError.{TzError}
 use Rattle.tz_base.specs.declared.fields.Fields.{Fields}
-use Rattle.tz_base.specs.Days.{day_number, is_leap, month_length}
-use Rattle.tz_base.specs.Fields.{IsMonth, IsMonthDay}
 use Rattle.tz_zone.specs.Clock.{IsLookupFault}
 use Rattle.tz_zone.specs.Table.{Zone}
 use Rattle.tz.specs.DateTimes.{DateTime, IsClockFault, ShowsByClock}
@@ -15,19 +13,6 @@ use Rattle.tz.specs.declared.datetime.disambiguation.Disambiguation.{Disambiguat
 use Rattle.tz_c.specs.Codes.{IsAnswer, IsAnswerOr, buffer_length, code_of, no_date_time, unknown_choice}
 use Rattle.tz_c.specs.DateTimes.{CanBeSearched, IsDateTimeDataOf}
 use Rattle.tz_c.specs.declared.date_time_data.DateTimeData.{DateTimeData}
-use Rattle.tz_c.specs.declared.columns.Day.{Day}
-
--- a day, by its date, and its first reading
-pub record IsDay (d : Day) : Type 0 where
-  pub month_is : IsMonth d.month
-  pub month_day_is : IsMonthDay d.month_day
-  pub in_month : d.month_day ≤ month_length (is_leap d.year) d.month
-  pub starts : d.start ≡ pos 86400 *ℤ day_number d.year d.month d.month_day
-  pub bound : (negsuc 67768100568057598 ≤ℤ d.start) × (d.start ≤ℤ pos 67767976233532799)
-
--- the reading is one of the day
-abbrev pub IsInDay : Day → ℤ → Type 0
-IsInDay d x = (d.start ≤ℤ x) × (x <ℤ (d.start +ℤ pos 86400))
 
 -- the columns of values and of codes have so many indexes
 abbrev pub AreOfLength : {V : Type 0} → ℕ → List V → List ℕ → Type 0

@@ -1,63 +1,20 @@
 //! Whole columns in one call: each index has a code of its own, an error at one does not stop the
 //! others, and all buffers have one length.
 
-ghost use Rattle.std.specs.Prelude.{◌≡◌, ◌≢◌, ◌<◌, ◌≤ℤ◌, ◌+ℤ◌, pos, length, IfOk, IfErr};
-ghost use Rattle.tz_base.specs.Fields.{IsCivil, IsReading};
-ghost use Rattle.tz.specs.DateTimes.{IsClockFault, ShowsByClock};
-ghost use Rattle.tz_zone.specs.Changes.{IsTrueSegment, segment_of};
-ghost use Rattle.tz_zone.specs.Clock.{IsClock, IsLookupFault};
-ghost use Rattle.tz_c.specs.Codes.{IsAnswer, IsAnswerOr, buffer_length};
-ghost use Rattle.tz_c.specs.Columns.{AreAnswers, AreInstantsBy, AreInstantsOfReadingsBy, AreOfLength, AreOkFrom, IsCodeOfNone, IsDateTimeAt, IsDay, IsInDay, IsOffsetAt};
-ghost use Rattle.tz_c.specs.DateTimes.{IsDateTimeDataOf, choice_of};
+ghost use Rattle.std.specs.Prelude.{◌≡◌, ◌≢◌, length};
+ghost use Rattle.tz_c.specs.Codes.{IsAnswerOr, buffer_length};
+ghost use Rattle.tz_c.specs.Columns.{AreAnswers, AreInstantsBy, AreInstantsOfReadingsBy, AreOfLength, AreOkFrom, IsCodeOfNone, IsDateTimeAt, IsOffsetAt};
+ghost use Rattle.tz_c.specs.DateTimes.{choice_of};
 ghost use Rattle.tz_c.specs.ZoneOfData.{zone_of_data};
 
-use crate::codes::{
-    BUFFER_LENGTH, INVALID_NANOSECONDS, NO_DATE_TIME, OK, OUT_OF_RANGE, UNKNOWN_CHOICE, code_of,
-};
+use crate::codes::{BUFFER_LENGTH, NO_DATE_TIME, OK, UNKNOWN_CHOICE, code_of};
 use crate::date_time_data::DateTimeData;
 use crate::searches::choice_of;
 use crate::zone_data::TzZone;
 use tz::inner::{
-    Fields, local_reading, write_instants, write_instants_of_readings, write_offsets,
+    Fields, write_date_times, write_instants, write_instants_of_readings, write_offsets,
 };
-use tz_base::constants::{NANOSECONDS_PER_SECOND, SECONDS_PER_DAY};
 use tz_base::error::TzError;
-use tz_rule::timezone::LocalTimeType;
-use tz_zone::timezone::Segment;
-
-/// The segment of the zone's clock that holds an instant: `before`, if it holds the instant.
-#[inline(always)]
-fn segment_around<'a>(zone: &TzZone<'a>, before: Segment<'a>, unix_time: i64) -> Segment<'a>
-    requires { IsTrueSegment (zone_of_data zone.now) (segment_of before) }
-    ensures segment { IsTrueSegment (zone_of_data zone.now) (segment_of result) }
-    ensures within { ((segment_of result).from ≤ℤ unix_time)
-        × (unix_time ≤ℤ (segment_of result).last) }
-{
-    if before.contains(unix_time) {
-        before
-    } else {
-        zone.as_zone_data().segment_at(unix_time)
-    }
-}
-
-/// The type of the zone's clock at an instant of a segment.
-#[inline(always)]
-fn type_in<'a>(
-    zone: &TzZone<'a>,
-    segment: &Segment<'a>,
-    unix_time: i64,
-) -> Result<&'a LocalTimeType, TzError>
-    requires segment { IsTrueSegment (zone_of_data zone.now) (segment_of segment.now) }
-    requires within { ((segment_of segment.now).from ≤ℤ unix_time)
-        × (unix_time ≤ℤ (segment_of segment.now).last) }
-    ensures ok { IfOk result (λ t. IsClock (zone_of_data zone.now) unix_time t.now) }
-    ensures err { IfErr result (IsLookupFault (zone_of_data zone.now) unix_time) }
-{
-    match segment.local_time_type() {
-        Some(local_time_type) => Ok(local_time_type),
-        None => zone.as_zone_data().find_local_time_type(unix_time),
-    }
-}
 
 /// Sets all codes to `OK`.
 fn clear(codes: &mut [u32])
@@ -65,119 +22,6 @@ fn clear(codes: &mut [u32])
     ensures cleared { AreOkFrom 0 codes.new }
 {
     codes.fill(OK);
-}
-
-/// A day, by its date, and its first reading.
-#[derive(Clone, Copy)]
-struct Day {
-    year: i32,
-    month: u8,
-    month_day: u8,
-    start: i64,
-}
-
-/// The day of a reading.
-fn day_of(reading: i64) -> Day
-    requires { IsReading reading }
-    ensures day { IsDay result }
-    ensures within { IsInDay result reading }
-{
-    let date = Fields::from_reading(reading, 0);
-    let second_of_day = 3600 * u32::from(date.hour)
-        + 60 * u32::from(date.minute)
-        + u32::from(date.second);
-    Day {
-        year: date.year,
-        month: date.month,
-        month_day: date.month_day,
-        start: reading - i64::from(second_of_day),
-    }
-}
-
-/// The day of a reading: `before`, if the reading is in that day.
-#[inline(always)]
-fn day_around(before: Day, reading: i64) -> Day
-    requires day { IsDay before }
-    requires in_range { IsReading reading }
-    ensures day { IsDay result }
-    ensures within { IsInDay result reading }
-{
-    if before.start <= reading && reading - before.start < SECONDS_PER_DAY {
-        before
-    } else {
-        day_of(reading)
-    }
-}
-
-/// The second of the day at a reading of it.
-#[inline(always)]
-fn second_in(day: &Day, reading: i64) -> u32
-    requires day { IsDay day.now }
-    requires in_range { IsReading reading }
-    requires within { IsInDay day.now reading }
-    ensures value { day.now.start +ℤ pos result ≡ reading }
-    ensures below { result < 86400 }
-{
-    (reading - day.start) as u32
-}
-
-/// The fields at a second of a day.
-#[inline(always)]
-fn fields_in(day: &Day, second_of_day: u32, nanoseconds: u32) -> Fields
-    requires day { IsDay day.now }
-    requires within { second_of_day < 86400 }
-    requires part { nanoseconds < 1000000000 }
-    ensures { IsCivil (day.now.start +ℤ pos second_of_day) nanoseconds result }
-{
-    Fields {
-        year: day.year,
-        month: day.month,
-        month_day: day.month_day,
-        hour: (second_of_day / 3600) as u8,
-        minute: (second_of_day % 3600 / 60) as u8,
-        second: (second_of_day % 60) as u8,
-        nanoseconds,
-    }
-}
-
-/// What the zone's clock shows at an instant of a segment. The day is that of the instant before,
-/// and then that of this one.
-#[inline(always)]
-fn date_time_in(
-    zone: &TzZone<'_>,
-    segment: &Segment<'_>,
-    day: &mut Day,
-    unix_time: i64,
-    nanoseconds: u32,
-    out: &mut DateTimeData,
-) -> u32
-    requires segment { IsTrueSegment (zone_of_data zone.now) (segment_of segment.now) }
-    requires within { ((segment_of segment.now).from ≤ℤ unix_time)
-        × (unix_time ≤ℤ (segment_of segment.now).last) }
-    requires day { IsDay day.old }
-    ensures day { IsDay day.new }
-    ensures answer { IsAnswer result
-        (IsDateTimeDataOf (ShowsByClock (zone_of_data zone.now) unix_time nanoseconds) out.new)
-        (IsClockFault (zone_of_data zone.now) unix_time nanoseconds) }
-    ensures kept { result ≢ 0 → out.new ≡ out.old }
-{
-    if nanoseconds >= NANOSECONDS_PER_SECOND {
-        return INVALID_NANOSECONDS;
-    }
-    let local_time_type = match type_in(zone, segment, unix_time) {
-        Ok(local_time_type) => local_time_type,
-        Err(error) => return code_of(&error),
-    };
-    let Some(reading) = local_reading(unix_time, local_time_type.ut_offset()) else {
-        return OUT_OF_RANGE;
-    };
-    *day = day_around(*day, reading);
-    *out = DateTimeData {
-        fields: fields_in(day, second_in(day, reading), nanoseconds),
-        local_time_type: *local_time_type,
-        unix_time,
-    };
-    OK
 }
 
 /// The code of an element that has no instant: that of its error, if there is one.
@@ -244,20 +88,12 @@ pub extern "C" fn tz_column_date_times(
     {
         return BUFFER_LENGTH;
     }
-    let mut segment = zone
-        .as_zone_data()
-        .segment_at(unix_times.first().copied().unwrap_or(0));
-    let mut day = day_of(0);
-    for i in 0..unix_times.len() {
-        segment = segment_around(zone, segment, unix_times[i]);
-        codes[i] = date_time_in(
-            zone,
-            &segment,
-            &mut day,
-            unix_times[i],
-            nanoseconds[i],
-            &mut date_times[i],
-        );
+    clear(codes);
+    let data = zone.as_zone_data();
+    let mut first = 0;
+    while let Err(unshown) = write_date_times(unix_times, nanoseconds, first, &data, date_times) {
+        codes[unshown.index] = code_of(&unshown.error);
+        first = unshown.index + 1;
     }
     OK
 }
@@ -317,9 +153,13 @@ pub extern "C" fn tz_column_instants_of_readings(
     clear(codes);
     let data = zone.as_zone_data();
     let mut first = 0;
-    while let Err(none) =
-        write_instants_of_readings(readings, first, disambiguation, &data, unix_times)
-    {
+    while let Err(none) = write_instants_of_readings(
+        readings,
+        first,
+        disambiguation,
+        &data,
+        unix_times,
+    ) {
         codes[none.index] = code_of_none(&none.error);
         first = none.index + 1;
     }

@@ -5,7 +5,7 @@ ghost use Rattle.tz.specs.DateTimes.{IsDateTime};
 ghost use Rattle.tz_c.specs.DateTimeData.{IsUtcData, date_time_data};
 
 use tz::datetime::FoundDateTimeKind;
-use tz::inner::{Fields, Slot, fields_of, utc_fields_of};
+use tz::inner::{DateTimeSlot, Fields, Slot, fields_of, utc_fields_of};
 use tz::{DateTime, UtcDateTime};
 use tz_rule::timezone::LocalTimeType;
 
@@ -68,6 +68,20 @@ impl DateTimeData {
             local_time_type: *date_time.local_time_type(),
             unix_time: date_time.unix_time(),
         }
+    }
+}
+
+impl DateTimeSlot for DateTimeData {
+    ghost use Rattle.tz_c.specs.DateTimeData.{date_time_data};
+
+    ghost holding = { date_time_data };
+
+    fn set(&mut self, fields: &Fields, local_time_type: &LocalTimeType, unix_time: i64) {
+        *self = DateTimeData {
+            fields: *fields,
+            local_time_type: *local_time_type,
+            unix_time,
+        };
     }
 }
 

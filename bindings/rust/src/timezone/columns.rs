@@ -2,54 +2,46 @@
 
 use super::TimeZoneRef;
 use crate::datetime::{DateTime, Disambiguation, UtcDateTime};
-use crate::error::{ColumnError, TzError};
-use crate::proved::tz::inner::{
-    NoInstant, Unanswered, write_instants, write_instants_of_readings, write_offsets,
-};
+use crate::error::ColumnError;
+use crate::proved::tz::inner::{self, NoInstant, Unanswered};
 use crate::proved::tz_zone::inner::ZoneData;
 
-/// Answers each place of a column of the same length, and returns the first error. The places of errors stay as they are.
+/// Answers a column, if all its parts have one length, by a call from an index on, up to the first that has no answer, and again after each such
+/// index. Returns the first error.
 #[inline(always)]
-fn answer<I, T>(
-    asked: impl ExactSizeIterator<Item = I>,
-    answers: &mut [T],
-    mut call: impl FnMut(I) -> Result<T, TzError>,
+fn answer_from_each(
+    have_one_length: bool,
+    mut call: impl FnMut(usize) -> Result<(), Unanswered>,
 ) -> Result<(), ColumnError> {
-    if asked.len() != answers.len() {
+    if !have_one_length {
         return Err(ColumnError::UnequalLengths);
     }
-    let mut first = Ok(());
-    for (place, (asked, slot)) in asked.zip(answers).enumerate() {
-        match call(asked) {
-            Ok(answer) => *slot = answer,
-            Err(error) if first.is_ok() => first = Err(ColumnError::At { place, error }),
-            Err(_) => {}
-        }
+    let (mut next, mut first) = (0, Ok(()));
+    while let Err(Unanswered { index: i, error }) = call(next) {
+        (next, first) = (i + 1, first.and(Err(ColumnError::At { place: i, error })));
     }
     first
 }
 
-/// Answers a column of as many instants as are asked, by a call that goes on from a place, and returns the first error. A place with an error stays
-/// as it is, and one whose local time means no instant gets `None`.
+/// Answers a column of as many instants as are asked. An index with an error stays as it is, and one whose local time means no instant gets `None`.
 #[inline(always)]
 fn answer_instants(
     asked: usize,
     unix_times: &mut [Option<i64>],
     write: impl Fn(usize, &mut [Option<i64>]) -> Result<(), NoInstant>,
 ) -> Result<(), ColumnError> {
-    if asked != unix_times.len() {
-        return Err(ColumnError::UnequalLengths);
-    }
-    let (mut next, mut first) = (0, Ok(()));
-    while let Err(NoInstant { index: i, error }) = write(next, unix_times) {
-        next = i + 1;
-        match (error, unix_times.get_mut(i)) {
-            (Some(error), _) => first = first.and(Err(ColumnError::At { place: i, error })),
-            (None, Some(slot)) => *slot = None,
-            (None, None) => {}
+    answer_from_each(asked == unix_times.len(), |mut next| {
+        while let Err(NoInstant { index: i, error }) = write(next, unix_times) {
+            if let Some(error) = error {
+                return Err(Unanswered { index: i, error });
+            }
+            if let Some(slot) = unix_times.get_mut(i) {
+                *slot = None;
+            }
+            next = i + 1;
         }
-    }
-    first
+        Ok(())
+    })
 }
 
 impl TimeZoneRef<'_> {
@@ -73,15 +65,10 @@ impl TimeZoneRef<'_> {
     /// # Ok::<(), Box<dyn std::error::Error>>(())
     /// ```
     pub fn offsets_at(&self, unix_times: &[i64], offsets: &mut [i32]) -> Result<(), ColumnError> {
-        if unix_times.len() != offsets.len() {
-            return Err(ColumnError::UnequalLengths);
-        }
-        let (zone, mut next, mut first) = (ZoneData::of(self), 0, Ok(()));
-        let mut write = |next| write_offsets(unix_times, next, &zone, offsets);
-        while let Err(Unanswered { index: i, error }) = write(next) {
-            (next, first) = (i + 1, first.and(Err(ColumnError::At { place: i, error })));
-        }
-        first
+        let zone = ZoneData::of(self);
+        answer_from_each(unix_times.len() == offsets.len(), |next| {
+            inner::write_offsets(unix_times, next, &zone, offsets)
+        })
     }
 
     /// Writes what clocks show at instants, in Unix seconds and nanoseconds, into a column of the same length. Instants in order are fastest.
@@ -97,22 +84,11 @@ impl TimeZoneRef<'_> {
         nanoseconds: &[u32],
         date_times: &mut [DateTime],
     ) -> Result<(), ColumnError> {
-        if unix_times.len() != nanoseconds.len() {
-            return Err(ColumnError::UnequalLengths);
-        }
-        let mut segment = self.segment_at(unix_times.first().copied().unwrap_or_default());
-        let asked = unix_times.iter().zip(nanoseconds);
-        answer(asked, date_times, |(&unix_time, &nanoseconds)| {
-            if !segment.contains(unix_time) {
-                segment = self.segment_at(unix_time);
-            }
-            match segment.local_time_type() {
-                Some(local_time_type) => {
-                    DateTime::from_timespec_and_local(unix_time, nanoseconds, *local_time_type)
-                }
-                None => DateTime::from_timespec(unix_time, nanoseconds, *self),
-            }
-        })
+        let (zone, len) = (ZoneData::of(self), unix_times.len());
+        answer_from_each(
+            len == nanoseconds.len() && len == date_times.len(),
+            |next| inner::write_date_times(unix_times, nanoseconds, next, &zone, date_times),
+        )
     }
 
     /// Writes the instants that local times mean, in Unix seconds, into a column of the same length. There is `None` where
@@ -131,7 +107,7 @@ impl TimeZoneRef<'_> {
     ) -> Result<(), ColumnError> {
         let zone = ZoneData::of(self);
         answer_instants(local.len(), unix_times, |next, unix_times| {
-            write_instants(local, next, disambiguation, &zone, unix_times)
+            inner::write_instants(local, next, disambiguation, &zone, unix_times)
         })
     }
 
@@ -168,7 +144,7 @@ impl TimeZoneRef<'_> {
     ) -> Result<(), ColumnError> {
         let zone = ZoneData::of(self);
         answer_instants(readings.len(), unix_times, |next, unix_times| {
-            write_instants_of_readings(readings, next, disambiguation, &zone, unix_times)
+            inner::write_instants_of_readings(readings, next, disambiguation, &zone, unix_times)
         })
     }
 }

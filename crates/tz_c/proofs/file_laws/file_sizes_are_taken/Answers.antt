@@ -1,14 +1,13 @@
 -- The tables of a file are as long as its headers say.
-use Rattle.tz_c.proofs.Common.{refl, inl, inr, subst, sym, ◌∙◌, ap, ◌≡◌, ℕ, List, length, Zone, TzError, code_of, buffer_length}
+use Rattle.tz_c.proofs.Common.{refl, inl, inr, subst, sym, ◌∙◌, ap, ℕ, List, length, Zone, TzError}
 use Rattle.std.proofs.lemmas.List.FromFn.{length-map-range_with_len}
 use Rattle.tz_base.specs.declared.error.TzError.TheVariants.{TzFile}
-use Rattle.tz_base.specs.declared.error.TzFileError.{TzFileError}
 use Rattle.tz_zone.specs.FileSizes.{AreSizesOf}
 use Rattle.tz_zone.specs.TzFile.{IsTzFile, IsFramed, part_of, transitions_of, types_of, leaps_of, change_at, type_at, leap_at}
 use Rattle.tz_zone.specs.TzFileFault.{FileFails, FrameFails}
 use Rattle.tz_zone.specs.declared.parse.tz_file.FileSizes.{FileSizes}
 use Rattle.tz_c.specs.Codes.{IsAnswerBy, file_code}
-use Rattle.tz_c.specs.Tables.{AreOfSizes, HaveSameLengths, IsOnlyReadAnswer, IsReadBySizes}
+use Rattle.tz_c.specs.Tables.{AreOfSizes, IsOnlyReadAnswer, IsReadBySizes}
 use Rattle.tz_c.proofs.file_laws.file_sizes_are_taken.Goals as goal
 
 abbrev HasSizes : FileSizes → Zone → Type 0
