@@ -2,7 +2,7 @@
 //! Date times, and what a search finds, in C's layout.
 
 use tz::proved::tz::datetime::FoundDateTimeKind;
-use tz::proved::tz::inner::{Fields, Slot, fields_of, utc_fields_of};
+use tz::proved::tz::inner::{DateTimeSlot, Fields, Slot, fields_of, utc_fields_of};
 use tz::proved::tz::{DateTime, UtcDateTime};
 use tz::proved::tz_rule::timezone::LocalTimeType;
 
@@ -59,6 +59,16 @@ impl DateTimeData {
             local_time_type: *date_time.local_time_type(),
             unix_time: date_time.unix_time(),
         }
+    }
+}
+
+impl DateTimeSlot for DateTimeData {
+    fn set(&mut self, fields: &Fields, local_time_type: &LocalTimeType, unix_time: i64) {
+        *self = DateTimeData {
+            fields: *fields,
+            local_time_type: *local_time_type,
+            unix_time,
+        };
     }
 }
 

@@ -135,8 +135,7 @@ pub fn tz_alternate_conflict(
     }
 }
 
-/// The rule that two lists give: the first type of the one, or else the first alternate rule of the
-/// other.
+/// The rule that two lists give: the first type of `fixed`, or else the first rule of `alternate`.
 pub(crate) fn rule_of_lists<'a>(
     fixed: &'a [LocalTimeType],
     alternate: &'a [AlternateData],

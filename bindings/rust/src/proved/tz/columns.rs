@@ -6,7 +6,8 @@
 //! serves it. In a block that is in order each instant is looked for in the segment of the one
 //! before. All others are looked up at once: whether that segment holds them cannot be predicted.
 
-pub(crate) mod instants;
+pub mod date_times;
+pub mod instants;
 
 use crate::proved::tz_base::error::TzError;
 use crate::proved::tz_rule::timezone::LocalTimeType;
@@ -45,6 +46,7 @@ fn holds_all(segment: &Segment<'_>, unix_times: &[i64]) -> bool {
 
 /// The segment of the zone's clock that holds an instant: the one before, if it holds the instant
 /// too.
+#[inline(always)]
 fn segment_around<'a>(zone: &ZoneData<'a>, before: Segment<'a>, unix_time: i64) -> Segment<'a> {
     if before.contains(unix_time) {
         before

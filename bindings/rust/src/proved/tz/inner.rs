@@ -1,7 +1,10 @@
 // Generated from crates/tz/src/inner.rt by bindings/erase: its contracts are cut. Change that file instead.
-//! For the crates above and their tests, and no part of the public surface: fields, text, the
-//! search for them, the slots that it fills, columns, and how bytes are read.
+//! For the crates above and their tests, and no part of the public surface: fields, texts, searches
+//! for fields and the slots that they fill, columns, and readers of bytes.
 
+#[cfg(feature = "inner")]
+pub use crate::proved::tz::columns::date_times::DateTimeSlot;
+pub use crate::proved::tz::columns::date_times::write_date_times;
 pub use crate::proved::tz::columns::instants::{
     NoInstant, write_instants, write_instants_of_readings,
 };

@@ -1,6 +1,6 @@
 // Generated from crates/tz_base/src/fields.rt by bindings/erase: its contracts are cut. Change that file instead.
 //! The seven fields of a date time: their check, their reading, and the fields of a reading;
-//! instants as one total of nanoseconds, and as seconds and nanoseconds.
+//! instants as one total of nanoseconds, and as seconds, rounded down, and nanoseconds.
 //!
 //! A reading counts the seconds from 1970-01-01 00:00:00 to the fields of a date time, whatever
 //! clock shows them.
@@ -32,7 +32,7 @@ pub struct Fields {
     pub nanoseconds: u32,
 }
 
-/// The reading of the first second of the years of 32 bits.
+/// The reading of the first second of the years of an `i32`.
 const FIRST_READING: i64 = -67_768_100_567_971_200;
 
 /// The reading of the last second of the years of an `i32`.

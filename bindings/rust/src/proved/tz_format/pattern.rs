@@ -120,13 +120,13 @@ impl<'a> UtcPattern<'a> {
         },
     };
 
-    /// The pattern, of date times of UTC alone.
+    /// Makes a pattern one of date times of UTC alone.
     #[must_use]
     pub const fn new(pattern: Pattern<'a>) -> Self {
         UtcPattern { pattern }
     }
 
-    /// The pattern, of date times of every zone.
+    /// The pattern itself, for date times of every zone.
     #[must_use]
     pub const fn pattern(&self) -> Pattern<'a> {
         self.pattern

@@ -2,11 +2,12 @@
 //! The instants that the local times of a whole column mean by a choice, from an index on, up to
 //! the first that means none.
 //!
-//! A column of readings has no fields, so most of its instants take one subtraction: far enough from
-//! changes on both sides a type of the clock serves a stretch of readings, by all choices. Readings
-//! are taken in blocks. In a block that is in order each reading is looked for in the stretch around
-//! the one before, or else around itself. In other blocks the stretch stays, since whether another
-//! one would serve the next reading cannot be predicted.
+//! A column of readings has no fields, so most of its instants take one subtraction: far enough
+//! from changes on both sides a type of the clock serves a stretch of readings, by all choices.
+//! From a reading on that is not in the stretch before, a block of them is taken. If it is in
+//! order, each is looked for in the stretch around the one before, or else around itself. If it is
+//! not, the stretch stays, since whether another one would serve the next reading cannot be
+//! predicted.
 
 use super::block_end;
 use crate::proved::tz::datetime::disambiguation::{find_instant, find_one, find_one_valid};
@@ -15,8 +16,10 @@ use crate::proved::tz_base::error::TzError;
 use crate::proved::tz_base::fields::{Fields, is_reading};
 use crate::proved::tz_zone::inner::ZoneData;
 
-/// The first reading and the last of the years of 32 bits.
+/// The first reading of the years of 32 bits.
 const FIRST_READING: i64 = -67_768_100_567_971_200;
+
+/// The last reading of the years of 32 bits.
 const LAST_READING: i64 = 67_767_976_233_532_799;
 
 /// The first index that has no instant.
@@ -94,8 +97,8 @@ fn instant_of<L: LocalTime>(
     }
 }
 
-/// Readings from one to another, each of which means the same instant by all choices: as many seconds
-/// before it as the offset has.
+/// Readings from one to another, each of which means the same instant by all choices: as many
+/// seconds before it as the offset has.
 #[derive(Clone, Copy)]
 struct Stretch {
     from: i64,
@@ -125,8 +128,8 @@ fn first_reading(from: i64, greatest: i32) -> i64 {
     from + i64::from(greatest)
 }
 
-/// The last reading that can be in a stretch, if a type ends with an instant: the least offset after
-/// it, or the last reading of all.
+/// The last reading that can be in a stretch, if a type ends with an instant: the least offset
+/// after it, or the last reading of all.
 fn last_reading(last: i64, least: i32) -> i64 {
     if LAST_READING - i64::from(least) < last {
         return LAST_READING;
@@ -134,8 +137,26 @@ fn last_reading(last: i64, least: i32) -> i64 {
     last + i64::from(least)
 }
 
-/// The stretch of the segment in which the window of a reading begins. If the window ends there too,
-/// the reading is in the stretch.
+/// Writes the instants of the readings from an index on that are in a stretch, up to the first that
+/// is not, and returns its index, or the length of the column if there is none.
+fn write_in_stretch<S: InstantSlot>(
+    readings: &[i64],
+    index: usize,
+    stretch: Stretch,
+    slots: &mut [S],
+) -> usize {
+    for i in index..readings.len() {
+        let reading = readings[i];
+        if reading < stretch.from || stretch.last < reading {
+            return i;
+        }
+        slots[i].set(shown_by(reading, stretch.offset));
+    }
+    readings.len()
+}
+
+/// The stretch of the segment in which the window of a reading begins. If the window ends there
+/// too, the reading is in the stretch.
 fn stretch_around(zone: &ZoneData<'_>, reading: i64) -> Stretch {
     let (least, greatest) = zone.offsets();
     let segment = zone.segment_at(shown_by(reading, greatest));
@@ -232,8 +253,12 @@ pub fn write_instants_of_readings<S: InstantSlot>(
     let mut stretch = EMPTY;
     let mut index = first;
     while index < readings.len() {
-        let end = block_end(index, readings.len());
-        match write_instants_of_block(readings, index, end, disambiguation, zone, stretch, slots) {
+        let from = write_in_stretch(readings, index, stretch, slots);
+        if from == readings.len() {
+            return Ok(());
+        }
+        let end = block_end(from, readings.len());
+        match write_instants_of_block(readings, from, end, disambiguation, zone, stretch, slots) {
             Ok(last) => stretch = last,
             Err(none) => return Err(none),
         }

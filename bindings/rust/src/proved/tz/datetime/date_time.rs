@@ -100,7 +100,7 @@ impl DateTime {
     }
 
     /// The date time with valid fields, which the type shows at a Unix time.
-    pub(super) const fn of_fields(
+    pub(crate) const fn of_fields(
         fields: &Fields,
         local_time_type: LocalTimeType,
         unix_time: i64,

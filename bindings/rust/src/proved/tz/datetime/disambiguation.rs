@@ -69,8 +69,8 @@ fn meant_by_walk<'a>(
 }
 
 /// The entry that is meant of all that a reading has in its window if the clock has one type before
-/// an instant, and another from there on. It decides as `give_around` does, but makes no ends, so
-/// that it is small enough to be inlined.
+/// an instant, and another from there on. It makes no `EntryEnds`, so that it is small enough to be
+/// inlined.
 #[inline]
 fn meant_around<'a>(
     reading: i64,
@@ -103,11 +103,11 @@ fn meant_around<'a>(
     })
 }
 
-/// The entry that is meant of all that a reading has in the clock of a zone.
+/// The entry that a choice means, of all that a reading has in a zone's clock.
 ///
 /// # Errors
 ///
-/// Those of [`ends_by_types`].
+/// [`TzError::OutOfRange`] if a side of a jump is outside the years of an `i32`.
 #[inline(always)]
 pub(super) fn meant_in<'a>(
     reading: i64,
@@ -145,7 +145,7 @@ fn lookup_instant(
     reading - i64::from(local_time_type.ut_offset())
 }
 
-/// What the zone's clock shows at a Unix time. It is cold, as few searches need it.
+/// `DateTime::shown_by_clock`, out of line: few searches need it.
 #[cold]
 fn shown_apart(unix_time: i64, nanoseconds: u32, zone: &ZoneData<'_>) -> Result<DateTime, TzError> {
     DateTime::shown_by_clock(unix_time, nanoseconds, zone)

@@ -24,6 +24,7 @@ pub(super) struct EntryEnds<'a> {
     pub(super) count: usize,
     pub(super) first: Option<Entry<'a>>,
     pub(super) last: Option<Entry<'a>>,
+    /// The first that is shown.
     pub(super) shown: Option<Entry<'a>>,
 }
 

@@ -1,7 +1,7 @@
 // Generated from crates/tz/src/datetime/entry_takers.rt by bindings/erase: its contracts are cut. Change that file instead.
-//! What takes the entries of a search, which are instants that show a reading and jumps over it:
-//! their date times, whose fields are those that were searched for, and those of a jump are what
-//! both types show; and the lists to which these go.
+//! What takes the entries of a search, in order of time: instants that show a reading, and jumps
+//! over it. `Dated` makes date times of them for a list; `EntryEnds` (`entry_ends.rt`) keeps their
+//! ends alone.
 
 use super::{DateTime, FoundDateTimeKind};
 use crate::proved::tz_base::error::TzError;

@@ -1,6 +1,6 @@
 // Generated from crates/tz/src/datetime/found.rt by bindings/erase: its contracts are cut. Change that file instead.
-//! What a search of date times finds: an entry, and lists of entries in memory of their own or in a
-//! buffer of the caller.
+//! What a search of date times finds: an entry; lists of entries, in memory of their own or in a
+//! buffer of the caller; and which of these is the unique, the earliest or the latest one.
 
 use super::DateTime;
 #[cfg(feature = "alloc")]

@@ -138,8 +138,8 @@ pub(super) fn give_in_window<'a, E: EntryTaker<'a>>(
             after,
         } => give_around(entries, reading, unix_time, before, after),
         WindowTypes::More(position) => {
-            // A zone and a view of its own, so that without a walk the caller's need not be in
-            // memory, and its count is not computed where nobody asks for it.
+            // The walk gets copies of the zone and the view, so that without a walk these need not
+            // be in memory, and its count is not computed where nobody asks for it.
             let whole = zone;
             let mut rest = view.fresh();
             let answer = walk(entries, reading, &mut rest, &whole, position, low, high);

@@ -52,8 +52,8 @@ impl Parts {
         BoundedTable::of_day(day, self.dst_start_time - self.std.ut_offset())
     }
 
-    /// How many seconds after 00:00 UTC of January 1st it ends, by the kind of the year. `day` is
-    /// the part `dst_end`.
+    /// How many seconds after 00:00 UTC of January 1st daylight saving time ends, by the kind of
+    /// the year. `day` is the part `dst_end` as a `RuleDay`.
     pub(super) const fn ends(&self, day: &RuleDay) -> BoundedTable {
         BoundedTable::of_day(day, self.dst_end_time - self.dst.ut_offset())
     }
@@ -67,7 +67,7 @@ impl Parts {
 #[derive(Clone, Copy)]
 pub struct AlternateTime {
     rule: AlternateData,
-    // Both days once more: `dst_start()` and `dst_end()` lend a `RuleDay`, which the data has as
+    // Both days again: `dst_start()` and `dst_end()` lend a `RuleDay`, which the data has as
     // numbers (`DayData`).
     dst_start: RuleDay,
     dst_end: RuleDay,

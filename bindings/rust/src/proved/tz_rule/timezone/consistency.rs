@@ -2,9 +2,9 @@
 //! Whether a rule is consistent: its starts and ends keep one order over all years and at each
 //! distance in years. If not, a conflict shows it.
 //!
-//! Consistency is determined by the tables of both alone, without a year, and a conflict is looked
-//! for in the years from 1972 to 2000. A start and an end at one instant are in no order, so they
-//! make no rule inconsistent: the span between them is empty.
+//! Consistency is determined by the tables of starts and ends alone, without a year, and a conflict
+//! is looked for in the years from 1972 to 2000. A start and an end at one instant are in no order,
+//! so they make no rule inconsistent: the span between them is empty.
 
 use super::year_table::{BoundedTable, KINDS, YearTable};
 use crate::proved::tz_base::constants::{SECONDS_PER_DAY, SECONDS_PER_NORMAL_YEAR};
@@ -26,8 +26,8 @@ const SECOND_KINDS: [u8; PAIR_KINDS] = [
 /// The first of the years that stand for all years.
 const FIRST_MODEL_YEAR: i32 = 1972;
 
-/// How many there are. Each kind of year is that of one of 1972 to 1999, and each pair kind that of
-/// one of these and the year after it.
+/// How many years stand for all years. Each kind of year is that of one of 1972 to 1999, and each
+/// pair kind that of one of these and the year after it.
 const MODEL_YEARS: u8 = 29;
 
 /// The kind of the first year of a pair kind.

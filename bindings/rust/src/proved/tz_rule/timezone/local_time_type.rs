@@ -66,6 +66,7 @@ impl Designation {
     }
 
     /// Checks and stores a name.
+    #[inline]
     const fn new(name: &[u8]) -> Result<Designation, LocalTimeTypeError> {
         let len = name.len();
         if len < 1 || len > 7 {
@@ -92,7 +93,7 @@ impl Designation {
         u64::from_le_bytes([b0, b1, b2, b3, b4, b5, b6, self.len])
     }
 
-    /// The bytes of the name, none if there is no name.
+    /// The bytes of the name, empty if there is no name.
     #[inline]
     const fn as_bytes(&self) -> &[u8] {
         self.bytes.split_at(self.len as usize).0
@@ -126,6 +127,7 @@ impl LocalTimeType {
     /// - [`LocalTimeTypeError::InvalidTimeZoneDesignationLength`] if the name does not have 1 to 7
     ///   bytes;
     /// - [`LocalTimeTypeError::InvalidTimeZoneDesignationChar`] if it has any other byte.
+    #[inline]
     pub const fn new(
         ut_offset: i32,
         is_dst: bool,
@@ -204,7 +206,7 @@ impl LocalTimeType {
     }
 }
 
-/// The bytes of the type's name, none if it has no name.
+/// The bytes of the type's name, empty if it has no name.
 #[inline]
 #[must_use]
 pub const fn designation_bytes(local_time_type: &LocalTimeType) -> &[u8] {

@@ -5,8 +5,8 @@ use crate::proved::tz_base::calendar;
 use crate::proved::tz_base::error::TransitionRuleError;
 use core::hash::{Hash, Hasher};
 
-/// The first of the seven days of a month of this length that a week day's w-th one, or for week 5
-/// its last one, may be, counted from 0.
+/// The first of the seven days, counted from 0, of a month of `days` days that may be the `week`-th
+/// with a given week day, or for week 5 the last.
 const fn least_day(days: u8, week: u8) -> u8 {
     let (usual, last) = (7 * (week - 1), days - 7);
     if last < usual { last } else { usual }
@@ -125,8 +125,9 @@ impl MonthWeekDay {
         self.week_day
     }
 
-    /// The first of the seven days that the day may be in leap years or in the others, counted from
-    /// January 1st, and the place of the seven by week days of January 1st (`days_later`).
+    /// The first of the seven days that the day may be, in leap years or in the others, counted
+    /// from January 1st, and a place: with the week day of January 1st added, it is the index in
+    /// `SECONDS_LATER` (`year_table.rt`) of how much later the day is.
     const fn span(&self, leap: bool) -> (u16, usize) {
         let before = calendar::days_before_month(leap, self.month);
         let days = calendar::days_of_month(leap, self.month);
@@ -182,7 +183,8 @@ impl Hash for RuleDay {
 
 impl RuleDay {
     /// The first day that the day may be in leap years or in the others, counted from January 1st,
-    /// and the place of those by week days of January 1st (`days_later`).
+    /// and a place: 0 for a day without a week day; with the week day of January 1st added, it is
+    /// the index in `SECONDS_LATER` (`year_table.rt`) of how much later the day is.
     pub(super) const fn span(&self, leap: bool) -> (u16, usize) {
         match self {
             RuleDay::Julian1WithoutLeap(day) => (day.year_day(leap), 0),

@@ -61,7 +61,7 @@ impl AlternateData {
     }
 
     /// The segment that holds an instant, if the moved year and its neighbours determine it;
-    /// otherwise a segment near by.
+    /// otherwise a segment nearby.
     ///
     /// `end_is_first` is `ends_next_year()`: whether some year's end comes before its start, so
     /// that daylight saving time ends in the next year.

@@ -57,8 +57,8 @@ const fn seconds_to(year_day: u16, seconds: i32) -> i32 {
     86_400 * year_day as i32 + seconds
 }
 
-/// The seconds of `days_later` at each place: those of a day that has no week day, and then twice
-/// those of seven days that follow one another.
+/// How many seconds later than the first day that it may be a day is, by place: nothing at 0 to 6,
+/// for a day without a week day; then six days down to none, and six down to one.
 const SECONDS_LATER: [u32; 20] = [
     0, 0, 0, 0, 0, 0, 0, 518_400, 432_000, 345_600, 259_200, 172_800, 86_400, 0, 518_400, 432_000,
     345_600, 259_200, 172_800, 86_400,
@@ -70,12 +70,13 @@ const fn seconds_later(place: usize) -> u32 {
     SECONDS_LATER[place]
 }
 
-/// The seconds at a place, by those of the first day.
+/// The seconds of the day at a place, by those of the first day that it may be.
 const fn seconds_at(first: i32, place: usize) -> i32 {
     first + seconds_later(place) as i32
 }
 
-/// The seconds of the last day, by those of the first.
+/// The seconds of the last day that it may be, by those of the first. Place 0 is that of a day
+/// without a week day.
 const fn last_seconds(first: i32, place: usize) -> i32 {
     if place == 0 { first } else { first + 518_400 }
 }
@@ -105,7 +106,8 @@ impl YearTable {
     }
 }
 
-/// A table, and the least and the greatest seconds of all kinds.
+/// A table, and the least and the greatest seconds of all kinds. Whether starts and ends keep their
+/// order (`order`) is in `consistency.rt`.
 #[derive(Clone, Copy)]
 pub(super) struct BoundedTable {
     pub(super) table: YearTable,

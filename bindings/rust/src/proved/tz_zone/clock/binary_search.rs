@@ -123,7 +123,7 @@ const fn position_in_block(
     halved(view, position, BLOCK, 1, unix_leap_time)
 }
 
-/// The position at which a leap time before the last transition lies, by halving.
+/// The position at which a leap time before the last transition lies, by binary search.
 ///
 /// After the first look the number of positions to choose from is a power of two.
 #[inline(always)]
@@ -169,7 +169,7 @@ const fn guessed(
 /// The position of a leap time before the last of 128 to 256 transitions, all of which lie in the
 /// first or in the last 128.
 ///
-/// Their number says how to halve, which a search in longer tables has to find.
+/// Each block of 128 is searched in seven steps without a loop.
 #[inline(always)]
 const fn in_two_blocks(view: &TransitionView<'_>, unix_leap_time: i64) -> Option<usize> {
     let count = view.len();
@@ -192,7 +192,7 @@ const fn in_two_blocks(view: &TransitionView<'_>, unix_leap_time: i64) -> Option
 }
 
 /// The position at which a leap time before the last transition lies: by a guess, or else by
-/// halving.
+/// binary search.
 ///
 /// A guess may read in vain, so there is none where the looks are to be few. It decides nothing by
 /// itself: it is taken only if the transitions around it show that it is right.

@@ -2,9 +2,9 @@
 //! The first change of a zone's clock after an instant, and the last one before it.
 //!
 //! Up to the last transition a walk goes from position to position. It reads the types of
-//! transitions, and looks for the instant at which one takes effect only if its type is another
-//! than the one before. From the last one on the rule has the changes. The walk back does the same
-//! from the rule on.
+//! transitions, and looks for the instant at which one takes effect only if its type differs from
+//! the one before. From the last one on the rule has the changes. The walk back does the same from
+//! the rule on.
 
 use super::binary_search::position_in;
 use super::lookup::{type_at, type_before, type_of};
@@ -81,7 +81,7 @@ const fn first_position(zone: &ZoneData<'_>, unix_time: i64) -> Option<(i64, usi
 
 /// The change at the next transition after an instant that lies at a position, and the position
 /// after it, if there are no leap seconds, that transition is to another type, and it is not the
-/// last one. Mostly it is so, and then nothing is walked.
+/// last one. That is the usual case, and needs no walk.
 #[inline]
 const fn change_at_next<'a>(
     zone: &ZoneData<'a>,
@@ -279,7 +279,7 @@ const fn run_start(zone: &ZoneData<'_>, position: usize) -> (usize, i64) {
 
 /// The change at the last transition before an instant, and the position before it, if the instant
 /// a second earlier lies at a position, there are no leap seconds, that transition is from another
-/// type, and it is not the last one of all. Mostly it is so, and then nothing is walked.
+/// type, and it is not the last one of all. That is the usual case, and needs no walk.
 #[inline]
 const fn change_at_last<'a>(
     zone: &ZoneData<'a>,

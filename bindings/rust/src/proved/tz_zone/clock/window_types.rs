@@ -71,7 +71,7 @@ pub const fn first_stage<'a>(
 }
 
 /// The span of a clock from where a walk has come to, up to `high` at most. `high` is not above
-/// `ALWAYS_DEFINED_UP_TO`, so every instant from `since` to it has a leap time.
+/// `ALWAYS_DEFINED_UP_TO` of `leap_time.rt`, so every instant from `since` to it has a leap time.
 pub const fn span_from<'a>(
     view: &mut TransitionView<'_>,
     zone: &ZoneData<'a>,

@@ -15,7 +15,7 @@ use crate::proved::tz_base::error::TzError;
 /// past all years of 32 bits, and far below 2^63 less any correction.
 const ALWAYS_DEFINED_UP_TO: i64 = 80_000_000_000_000_000;
 
-/// A leap time less a correction, as a wide number.
+/// A leap time less a correction, in 128 bits.
 pub(crate) const fn without_correction(time: i64, correction: i32) -> i128 {
     time as i128 - correction as i128
 }
@@ -47,7 +47,7 @@ pub(crate) const fn first_begun(leap_seconds: &[LeapSecond], unix_time: i64) -> 
     }
 }
 
-/// How many leap seconds have a time that is not above a leap time, by halving.
+/// How many leap seconds are at or before a leap time, by binary search.
 pub(crate) const fn leap_seconds_up_to(leap_seconds: &[LeapSecond], unix_leap_time: i64) -> usize {
     let mut low = 0;
     let mut high = leap_seconds.len();
@@ -69,7 +69,7 @@ const fn is_reached(leap_seconds: &[LeapSecond], index: usize, unix_time: i64) -
     time as i128 <= unix_time as i128 + correction as i128
 }
 
-/// The first index, from `from` on, at which no leap second is reached.
+/// The first index, from `from` on, whose leap second is not reached, or the length of the list.
 const fn first_not_reached(leap_seconds: &[LeapSecond], from: usize, unix_time: i64) -> usize {
     let mut index = from;
     while index < leap_seconds.len() && is_reached(leap_seconds, index, unix_time) {

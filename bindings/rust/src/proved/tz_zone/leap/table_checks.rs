@@ -114,7 +114,7 @@ pub(crate) const fn truncated_start(leap_seconds: &[LeapSecond]) -> Option<&Leap
     Some(first)
 }
 
-/// Whether a truncated start is reached at the leap time.
+/// Whether the table has begun at the leap time: it has no truncated start, or that is reached.
 pub(crate) const fn has_begun_at(leap_seconds: &[LeapSecond], unix_leap_time: i64) -> bool {
     match truncated_start(leap_seconds) {
         Some(start) => start.unix_leap_time() <= unix_leap_time,
@@ -122,7 +122,8 @@ pub(crate) const fn has_begun_at(leap_seconds: &[LeapSecond], unix_leap_time: i6
     }
 }
 
-/// The leap time at which the table expires: that of a last record with the correction before it.
+/// The leap time at which the table expires: that of a last record that repeats the correction
+/// before it.
 pub(crate) const fn expiry(leap_seconds: &[LeapSecond]) -> Option<i64> {
     if leap_seconds.len() < 2 {
         return None;
@@ -141,8 +142,8 @@ pub(crate) const fn is_plain_table(leap_seconds: &[LeapSecond]) -> bool {
     truncated_start(leap_seconds).is_none() && expiry(leap_seconds).is_none()
 }
 
-/// The correction before the first index of the list: 0, but the first one's own at a truncated
-/// start.
+/// The correction before the first index of the list: 0, or at a truncated start that of the first
+/// record.
 pub(crate) const fn correction_at_start(leap_seconds: &[LeapSecond]) -> i32 {
     match truncated_start(leap_seconds) {
         Some(start) => start.correction(),

@@ -1,7 +1,7 @@
 // Generated from crates/tz_zone/src/parse/tz_file.rt by bindings/erase: its contracts are cut. Change that file instead.
 //! TZif files: numbers, whose most significant byte comes first, and headers; the frame, which is
-//! one unit or two, and the footer; the tables of a unit; the footer's rule; and the zone of all.
-//! (RFC 8536)
+//! one unit or two, and the footer; the tables of a unit; the footer's rule; and the zone that they
+//! make, `TimeZone::from_tz_data`. (RFC 8536)
 
 use super::tz_string::parse_posix_tz;
 #[cfg(feature = "alloc")]
@@ -270,16 +270,16 @@ fn read_unit(size: TimeSize, bytes: &[u8]) -> Result<Unit<'_>, TzFileError> {
     })
 }
 
-/// Of a file: the unit whose tables are read, which is the first in version 1 and otherwise the
-/// second, and the footer after the second. The version in this unit's own header counts; the two
-/// headers are not compared.
+/// The parts of a file that are read: the unit whose tables are read, which is the first in version
+/// 1 and otherwise the second, and the footer after the second. The version in this unit's own
+/// header counts; the two headers are not compared.
 #[derive(Clone, Copy)]
 struct Frame<'a> {
     unit: Unit<'a>,
     footer: Option<&'a [u8]>,
 }
 
-/// Cuts the file: all slices of it that are read.
+/// Cuts a file into the parts that are read.
 #[inline(always)]
 fn read_frame(bytes: &[u8]) -> Result<Frame<'_>, TzFileError> {
     // In later versions the first unit is for readers of version 1: of its block only the length is
@@ -302,7 +302,7 @@ fn read_frame(bytes: &[u8]) -> Result<Frame<'_>, TzFileError> {
     })
 }
 
-/// How many entries each table of a file has, and how many bytes its footer, in C's layout.
+/// How many entries each table of a file has, and how many bytes its footer has, in C's layout.
 #[cfg(feature = "inner")]
 #[repr(C)]
 #[derive(Clone, Copy)]
@@ -360,7 +360,8 @@ fn read_long_transitions<A: Allocator + Copy>(
     Ok(transitions)
 }
 
-/// The transitions, in their order. Each size of times has a loop of its own, without a test.
+/// The transitions, in their order. Each size of times has a loop of its own, which does not test
+/// the size.
 #[cfg(feature = "alloc")]
 fn read_transitions<A: Allocator + Copy>(
     alloc: A,
@@ -398,7 +399,7 @@ fn name_at(names: &[u8], index: usize) -> Option<&[u8]> {
     }
 }
 
-/// The name, where it is not empty.
+/// The name, unless it is empty.
 fn non_empty(name: &[u8]) -> Option<&[u8]> {
     if name.is_empty() { None } else { Some(name) }
 }
@@ -478,7 +479,7 @@ fn check_indicators(unit: &Unit<'_>) -> Result<(), TzFileError> {
     Ok(())
 }
 
-/// Whether all bytes are below a number. The loop takes no branch, and may be over many at once.
+/// Whether all bytes are below a number. The loop has no branch, so it can be vectorized.
 fn are_below(bytes: &[u8], bound: usize) -> bool {
     let mut greatest = 0;
     for byte in bytes {
@@ -492,7 +493,7 @@ const fn is_earlier(change: Transition, next: Transition) -> bool {
     change.unix_leap_time() < next.unix_leap_time()
 }
 
-/// Whether each transition comes before the next one. The loop takes no branch on the times, and
+/// Whether each transition comes before the next one. The loop has no branch on the times, and
 /// reads each of them once.
 fn all_rise(transitions: &[Transition]) -> bool {
     let Some((first, rest)) = transitions.split_first() else {
@@ -507,8 +508,8 @@ fn all_rise(transitions: &[Transition]) -> bool {
     rise
 }
 
-/// Whether the transitions of a unit rise and name types, whose number is given. If not, an exact
-/// check finds the first fault.
+/// Whether the transitions of a unit rise and name one of so many types. If not,
+/// `check_transitions` finds the first fault.
 fn are_sound(unit: &Unit<'_>, transitions: &[Transition], types: usize) -> bool {
     are_below(unit.block.indexes, types) && all_rise(transitions)
 }

@@ -42,8 +42,8 @@ fn after_digit(text: &[u8]) -> Option<(u8, &[u8])> {
     }
 }
 
-/// The number at the beginning, where it has one digit or two, as most numbers of a string have,
-/// and the rest of the bytes.
+/// The number at the beginning, if it has one digit or two, as most numbers of a string have, and
+/// the rest of the bytes.
 #[inline(always)]
 fn read_two_digits(text: &[u8]) -> Option<(u8, &[u8])> {
     let (first, rest) = after_digit(text)?;
@@ -56,7 +56,7 @@ fn read_two_digits(text: &[u8]) -> Option<(u8, &[u8])> {
     }
 }
 
-/// The longest run of digits at the beginning, and the rest of the bytes.
+/// The longest run of digits at the beginning, as a text, and the rest of the bytes.
 fn read_digits(text: &[u8]) -> (&str, &[u8]) {
     let (digits, rest) = split_digits(text);
     (crate::shim::text(digits), rest)
@@ -123,6 +123,7 @@ fn split_at_bracket(text: &[u8]) -> (&[u8], &[u8]) {
 }
 
 /// The name at the beginning, and the rest of the bytes.
+#[inline]
 fn read_name(text: &[u8]) -> Result<(&[u8], &[u8]), TzStringError> {
     let Some(quoted) = after_byte(text, b'<') else {
         return Ok(split_letters(text));
@@ -143,7 +144,7 @@ const EXTENDED_HOURS: u32 = 167;
 /// The greatest minute, and the greatest second.
 const LAST_OF_SIXTY: u32 = 59;
 
-/// A time as it is written: whether after a minus, and its numbers.
+/// A time as it is written: whether it has a minus sign, and its numbers.
 #[derive(Clone, Copy)]
 struct WrittenTime {
     minus: bool,
@@ -186,7 +187,7 @@ fn read_part(text: &[u8]) -> Result<(u32, &[u8]), TzStringError> {
     }
 }
 
-/// Hours, minutes and seconds after a sign that is read, and the rest of the bytes.
+/// Hours, minutes and seconds after a sign that has been read, and the rest of the bytes.
 #[inline(always)]
 fn read_hms(text: &[u8], minus: bool) -> Result<(WrittenTime, &[u8]), TzStringError> {
     let (hours, rest) = read_time_number(text)?;
@@ -217,7 +218,7 @@ fn read_sign(text: &[u8]) -> (bool, &[u8]) {
 /// How far daylight saving time is ahead of standard time, in seconds, if a string does not say.
 pub const DEFAULT_SAVING: i32 = 3600;
 
-/// The numbers of an offset are in range.
+/// Checks that the numbers of an offset are in range.
 fn check_offset(time: &WrittenTime) -> Result<(), TzStringError> {
     if time.hours > DAY_HOURS {
         return Err(TzStringError::InvalidOffsetHour);
@@ -266,6 +267,7 @@ fn read_zero_based_day(text: &[u8]) -> Result<(Julian0WithLeap, &[u8]), TzError>
 
 /// The month, the week and the week day after an `M`, each of one digit or two, as strings usually
 /// have them, and the rest of the bytes.
+#[inline]
 fn read_usual_month_week_day(text: &[u8]) -> Option<(u8, u8, u8, &[u8])> {
     let (month, rest) = read_two_digits(text)?;
     let rest = after_byte(rest, b'.')?;
@@ -330,7 +332,7 @@ fn greatest_hour(extended: bool) -> u32 {
     if extended { EXTENDED_HOURS } else { DAY_HOURS }
 }
 
-/// The numbers of a day time are in range.
+/// Checks that the numbers of a day time are in range.
 fn check_day_time(time: &WrittenTime, extended: bool) -> Result<(), TzStringError> {
     if time.hours > greatest_hour(extended) {
         return Err(TzStringError::InvalidDayTimeHour);
@@ -423,6 +425,7 @@ fn read_switches(text: &[u8], extended: bool) -> Result<(DayAndTime, DayAndTime)
 
 /// The daylight name, its offset, and the switches after a comma.
 #[allow(clippy::type_complexity)]
+#[inline]
 fn read_daylight(text: &[u8]) -> Result<(&[u8], Option<WrittenTime>, &[u8]), TzStringError> {
     let (name, rest) = read_name(text)?;
     if rest.is_empty() {
@@ -437,6 +440,7 @@ fn read_daylight(text: &[u8]) -> Result<(&[u8], Option<WrittenTime>, &[u8]), TzS
 }
 
 /// The local time type with this name.
+#[inline]
 fn named_type(
     name: &[u8],
     ut_offset: i32,
@@ -446,6 +450,7 @@ fn named_type(
 }
 
 /// The rule that the whole string denotes.
+#[inline]
 fn read_text(text: &[u8], extended: bool) -> Result<TransitionRule, TzError> {
     let (std_name, rest) = read_name(text)?;
     let (std_offset, rest) = read_offset(rest)?;
@@ -467,12 +472,14 @@ fn read_text(text: &[u8], extended: bool) -> Result<TransitionRule, TzError> {
 ///
 /// An extended string may have signed day times, of at most 167 hours, 59 minutes and 59 seconds
 /// either way. (RFC 8536, section 3.3.1)
+#[inline]
 pub fn parse_posix_tz(text: &[u8], extended: bool) -> Result<TransitionRule, TzError> {
     read_text(text, extended)
 }
 
 /// The types of a rule.
 #[cfg(feature = "alloc")]
+#[inline]
 fn types_of<A: Allocator + Copy>(
     alloc: A,
     rule: &TransitionRule,
@@ -485,6 +492,7 @@ fn types_of<A: Allocator + Copy>(
 
 /// The zone of a rule.
 #[cfg(feature = "alloc")]
+#[inline]
 fn zone_of_rule<A: Allocator + Copy>(
     alloc: A,
     rule: TransitionRule,
@@ -495,6 +503,7 @@ fn zone_of_rule<A: Allocator + Copy>(
 
 /// The zone of a TZ string, with white space at its ends or without.
 #[cfg(feature = "alloc")]
+#[inline]
 pub(crate) fn zone_of_tz_string<A: Allocator + Copy>(
     alloc: A,
     text: &str,

@@ -77,8 +77,8 @@ impl<'a> TimeZoneRef<'a> {
     }
 
     /// The first change after an instant, and the position after it, for the next call. `position`
-    /// is that after a change at the instant, which one compare shows; if it is not, the table is
-    /// searched.
+    /// may be that after a change at the instant: one comparison shows whether it is, and if not,
+    /// the table is searched.
     #[inline(always)]
     pub(crate) const fn following_from(
         &self,
@@ -119,8 +119,8 @@ impl<'a> TimeZoneRef<'a> {
     }
 
     /// The last change before an instant, and the position before it, for the next call. `position`
-    /// is that before a change at the instant, which one compare shows; if it is not, the table is
-    /// searched.
+    /// may be that before a change at the instant: one comparison shows whether it is, and if not,
+    /// the table is searched.
     #[inline(always)]
     pub(crate) const fn preceding_from(
         &self,

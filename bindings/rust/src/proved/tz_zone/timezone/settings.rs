@@ -105,6 +105,7 @@ impl<'a, F: Fn(&str) -> Result<Vec<u8>, ReadFault>> TimeZoneSettings<'a, F> {
     /// - [`Error::Tz`] with an error of [`TimeZone::from_tz_data`] if the file is not a TZif file;
     /// - [`Error::Tz`] of [`TzError::Memory`] if an allocation fails, in this call or in the
     ///   reader.
+    #[inline]
     pub fn parse_posix_tz<A: Allocator + Copy>(
         &self,
         alloc: A,
@@ -144,6 +145,7 @@ impl<'a, F: Fn(&str) -> Result<Vec<u8>, ReadFault>> TimeZoneSettings<'a, F> {
     }
 
     /// The zone of the file with the name, or that of the TZ string if no such file can be read.
+    #[inline]
     fn parse_name_or_text<A: Allocator + Copy>(
         &self,
         alloc: A,
@@ -320,6 +322,7 @@ impl<F: Fn(&str) -> Result<Vec<u8>, ReadFault>> TimeZoneSettings<'_, F> {
 
     /// The file with the name in the first of the directories that has it, or `None` where none has
     /// it.
+    #[inline]
     fn find_in_directories<A: Allocator + Copy>(
         &self,
         alloc: A,
@@ -349,6 +352,7 @@ impl<F: Fn(&str) -> Result<Vec<u8>, ReadFault>> TimeZoneSettings<'_, F> {
 
     /// The file with the name, or `None` if it cannot be read. No text is made for an error that
     /// nobody sees.
+    #[inline]
     fn find_readable<A: Allocator + Copy>(
         &self,
         alloc: A,

@@ -1,6 +1,6 @@
 // Generated from crates/tz_zone/src/timezone/zone.rt by bindings/erase: its contracts are cut. Change that file instead.
-//! Time zones that own their parts. Files are read in `parse/tz_file.rt`, zones are opened by
-//! settings and names in `settings.rt`, and changes are in `changes.rt`.
+//! Time zones that own their parts. `TimeZone::from_tz_data` is in `parse/tz_file.rt`, zones are
+//! opened by settings and names in `settings.rt`, and changes are in `changes.rt`.
 
 #[cfg(feature = "alloc")]
 use super::zone_checks::{check_parts, offset_range};
@@ -80,6 +80,7 @@ impl<A: Allocator + Copy> TimeZone<A> {
     ///
     /// The last two are checked only if there are a rule and a transition, and the last transition
     /// is not before the leap-second table begins. On an error the lists are dropped.
+    #[inline]
     pub fn new(
         transitions: Vec<Transition, A>,
         local_time_types: Vec<LocalTimeType, A>,
@@ -95,7 +96,8 @@ impl<A: Allocator + Copy> TimeZone<A> {
         )
     }
 
-    /// The zone with these parts, of which the transitions may be known to be sound.
+    /// The zone with these parts. If `are_sound`, the transitions are not checked again.
+    #[inline]
     pub(crate) fn with_transitions(
         are_sound: bool,
         transitions: Vec<Transition, A>,

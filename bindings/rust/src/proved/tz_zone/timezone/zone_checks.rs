@@ -21,7 +21,7 @@ const fn rises_at(transitions: &[Transition], index: usize) -> bool {
     transitions[index].unix_leap_time() < transitions[index + 1].unix_leap_time()
 }
 
-/// Each transition names one of the types, whose number is given, and comes before the next one.
+/// Checks that each transition names one of so many types, and comes before the next one.
 const fn check_transitions(transitions: &[Transition], types: usize) -> Result<(), TimeZoneError> {
     {
         let mut i = 0;
@@ -39,8 +39,7 @@ const fn check_transitions(transitions: &[Transition], types: usize) -> Result<(
     Ok(())
 }
 
-/// Whether transitions can be those of a zone with so many types, without a look at any if they are
-/// known to be sound.
+/// Checks transitions against the number of types, unless they are known to be sound.
 const fn check_unless_sound(
     are_sound: bool,
     transitions: &[Transition],
@@ -52,7 +51,7 @@ const fn check_unless_sound(
     check_transitions(transitions, types)
 }
 
-/// The type that a rule has where a leap time takes effect.
+/// The type that a rule has at the instant at which a leap time takes effect.
 const fn rule_type_at<'a>(
     rule: RuleRef<'a>,
     leap_seconds: &[LeapSecond],
@@ -64,8 +63,9 @@ const fn rule_type_at<'a>(
     }
 }
 
-/// The extra rule has a type at the last transition, which is that transition's, unless the
-/// transition is before a truncated start.
+/// Checks that the extra rule has the last transition's type there, unless the transition is before
+/// a truncated start.
+#[inline]
 const fn check_extra_rule(
     transitions: &[Transition],
     local_time_types: &[LocalTimeType],
@@ -92,8 +92,9 @@ const fn check_extra_rule(
     Ok(())
 }
 
-/// Checks the parts of a zone, in the order of their errors. The transitions may be known to be
-/// sound.
+/// Checks the parts of a zone, in the order of their errors. If `are_sound`, the transitions are
+/// not checked again.
+#[inline]
 pub(crate) const fn check_parts(
     are_sound: bool,
     transitions: &[Transition],
@@ -138,7 +139,7 @@ const fn offsets_of_types(local_time_types: &[LocalTimeType]) -> (i32, i32) {
     (least, greatest)
 }
 
-/// Two offsets, moved apart until those of the rule lie between them, and no further.
+/// The range of offsets from `least` to `greatest`, widened just enough to hold those of the rule.
 const fn with_rule(rule: RuleRef<'_>, least: i32, greatest: i32) -> (i32, i32) {
     match rule {
         RuleRef::Fixed(local_time_type) => {
@@ -152,6 +153,7 @@ const fn with_rule(rule: RuleRef<'_>, least: i32, greatest: i32) -> (i32, i32) {
 }
 
 /// The least and the greatest offset of the types and of the rule.
+#[inline]
 pub(super) const fn offset_range(
     local_time_types: &[LocalTimeType],
     extra_rule: Option<RuleRef<'_>>,
