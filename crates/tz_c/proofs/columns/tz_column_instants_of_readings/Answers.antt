@@ -43,7 +43,8 @@ returns-clause-answer c =
     let z = zone_of_data c.args.zone.now in
     let choice = c.in-Some.disambiguation in
     let asked = c.args.readings.now in
-    let rest = rw c.as_zone_data-data.ensures at (rw c.in_default-write_instants_of_readings.is at c.write_instants_of_readings.ensures.ok) in
+    let written = rw c.in_default-write_instants_of_readings.is at c.write_instants_of_readings.ensures.ok in
+    let rest = rw c.as_zone_data-data.ensures at written in
     let answered = answered_up_to (IsReadingAt z choice asked)
       (HoldsInstantAt (λ u. u) (IsInstantOfReading z choice) asked)
     c.args.unix_times.now c.loop-none.unix_times c.write_instants_of_readings.new.slots c.loop-none.codes
