@@ -120,8 +120,8 @@ impl TimeZoneRef<'_> {
     ///
     /// - [`ColumnError::UnequalLengths`] if the columns differ in length: nothing is written;
     /// - [`ColumnError::At`] the first place at which there is an error, with those of [`DateTime::from_local`], or
-    ///   [`OutOfRange`](TzError::OutOfRange) if the year of the reading does not fit an `i32`. All other instants are written, and where there is an
-    ///   error the column stays as it is.
+    ///   [`OutOfRange`](crate::error::TzError::OutOfRange) if the year of the reading does not fit an `i32`. All other instants are written, and where
+    ///   there is an error the column stays as it is.
     ///
     /// ```
     /// # #[cfg(feature = "std")] {
