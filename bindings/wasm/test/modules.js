@@ -20,7 +20,7 @@ const isCalled = (command) => spawnSync(command, ['--version']).error === undefi
 
 test('the modules are small, and import nothing', (context) => {
   context.diagnostic(`tz.wasm has ${small.length} bytes, tz-zones.wasm ${large.length}`);
-  assert.ok(small.length <= 135_000 && large.length <= 540_000);
+  assert.ok(small.length <= 147_000 && large.length <= 546_000);
   for (const bytes of [small, large]) assert.deepEqual(WebAssembly.Module.imports(new WebAssembly.Module(bytes)), []);
 });
 
