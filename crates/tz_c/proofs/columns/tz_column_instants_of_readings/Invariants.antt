@@ -8,7 +8,7 @@ use Rattle.tz_c.proofs.columns.tz_column_instants_of_readings.Given as goal
 abbrev pub invariant-loop-none : goal.invariant-loop-none
 invariant-loop-none l = (l.first ≤ length l.readings)
     × AreCodedUpTo (IsReadingAt (zone_of_data l.zone) l.disambiguation l.readings) l.initial.unix_times
-      l.unix_times l.codes l.first
+    l.unix_times l.codes l.first
 
 abbrev pub decreases-loop-none : goal.decreases-loop-none
 decreases-loop-none l = length l.readings - l.first
