@@ -1,10 +1,10 @@
 -- From a stage of a walk on: the type of the clock until the next transition is reached, and the stages that follow.
-use Rattle.tz_zone.proofs.Common.{◌≡◌, arith, ℕ, ints, sym, inr, inl, length, ℤ, ◌<◌, ◌≤ℤ◌, Some, ◌<ℤ◌, pos, LocalTimeType, Zone, [], ◌+ℤ◌, ◌+◌, Option, by_lt_z, slice_get, slice_get_within, ◌≢◌, None, IsReachedAt, suc, IsClock, zero, Transition, IsLeapTimeRefused, eqb, AreReached, MatchOption, IsLeapTime, IsTimeReached, IsSoundTable, IsTypeAt, nil_from_length, Bor, HasNoType, IsTypeAfterTable, eqb-suc-zero, IsLastBefore}
+use Rattle.tz_zone.proofs.Common.{◌≡◌, arith, ℕ, ints, sym, inr, inl, subst, length, ℤ, ◌<◌, ◌≤ℤ◌, Some, ◌<ℤ◌, pos, LocalTimeType, Zone, [], ◌+ℤ◌, ◌+◌, Option, by_lt_z, slice_get, slice_get_within, ◌≢◌, None, IsReachedAt, suc, IsClock, zero, Transition, IsLeapTimeRefused, eqb, AreReached, MatchOption, IsLeapTime, IsTimeReached, IsSoundTable, IsTypeAt, nil_from_length, Bor, HasNoType, IsTypeAfterTable, eqb-suc-zero, IsLastBefore}
 use Rattle.tz_zone.specs.ClockSpans.{IsStage}
 use Rattle.tz_zone.specs.declared.clock.window_types.Stage.{Stage}
 use Rattle.tz_zone.proofs.LeapTimes.{leap_time_mono, one_leap_time, past_later}
-use Rattle.tz_zone.proofs.RisingTimes.{rising, ahead_from, reached_through}
-use Rattle.tz_zone.proofs.Positions.{clock_at_position}
+use Rattle.tz_zone.proofs.RisingTimes.{rising, ahead_from, none_ahead, reached_later, reached_through}
+use Rattle.tz_zone.proofs.Positions.{reached_at, clock_at_position}
 use Rattle.tz_zone.proofs.PositionRuns.{some_transitions, type_after, types_from_last}
 use Rattle.tz_zone.proofs.InstantsWithLeapTime.{defined_within, clock_without, leap_unless_refused, reached_from}
 
@@ -32,14 +32,8 @@ module _ (z : Zone) (sound : IsSoundTable z) (first since : ℤ) (s : Stage) (st
       (defined_within z.leap_seconds sound.leap_seconds_are since v here.1.not_refused from to) in (
         leap.0,
         leap.1,
-        λ i change less at_i.
-            omega (
-              arith,
-              ints,
-              here.2 i change less at_i,
-              leap_time_mono z.leap_seconds sound.leap_seconds_are since v here.0
-                  leap.0 from here.1 leap.1,
-            ),
+        reached_later z.transitions s.position here.0 leap.0 here.2
+            (leap_time_mono z.leap_seconds sound.leap_seconds_are since v here.0 leap.0 from here.1 leap.1),
       )
 
   pub stage_later : (v : ℤ) → since ≤ℤ v → v ≤ℤ pos 80000000000000000 → IsStage z first v s
@@ -55,13 +49,9 @@ module _ (z : Zone) (sound : IsSoundTable z) (first since : ℤ) (s : Stage) (st
   pub all_reached_later : s.position ≡ length z.transitions → 0 < length z.transitions → (v : ℤ) → since ≤ℤ v
       → v ≤ℤ pos 80000000000000000 → IsReachedAt z v (length z.transitions)
   all_reached_later all some v from to =
-      let here = leap_later (some_transitions z.transitions 0 some) v from to in
-      record {
-        time = here.0;
-        time_is = here.1;
-        reached = λ i change less at_i. here.2 i change (omega (arith, all, less)) at_i;
-        ahead = λ i change above at_i. absurd (omega (arith, above, slice_get_within z.transitions i change at_i));
-      }
+      let (l, leap, reached) = leap_later (some_transitions z.transitions 0 some) v from to in
+      subst (IsReachedAt z v) all
+      (reached_at z v l s.position leap (reached, none_ahead z.transitions s.position l (omega (arith, all))))
 
   module _ (next : Transition) (at_next : slice_get z.transitions s.position ≡ Some next) where
     inside : s.position < length z.transitions
@@ -92,12 +82,9 @@ module _ (z : Zone) (sound : IsSoundTable z) (first since : ℤ) (s : Stage) (st
     clock_before_next v from to before =
         let (l, leap, reached) = leap_later some v from to in
         let early = by_lt_z l next.unix_leap_time (λ h. h) (λ h. absurd (before (l, leap, h))) in
-        clock_at_position z sound s.position v s.local_time_type.now inside (record {
-          time = l;
-          time_is = leap;
-          reached = reached;
-          ahead = ahead_from z.transitions (rising z sound) l s.position next at_next early;
-        }) stage.type_is
+        let ahead = ahead_from z.transitions (rising z sound) l s.position next at_next early in
+        clock_at_position z sound s.position v s.local_time_type.now inside
+        (reached_at z v l s.position leap (reached, ahead)) stage.type_is
 
     -- after the last instant before it is reached the walk is one position further
     pub stage_after_next : (last : ℤ) → IsLastBefore z.leap_seconds next.unix_leap_time last

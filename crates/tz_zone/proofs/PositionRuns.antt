@@ -1,9 +1,9 @@
 -- Positions between two others, and the clock where transitions are to one type.
 use Rattle.tz_zone.proofs.Common.{◌≡◌, arith, ℕ, ints, refl, sym, inr, inl, length, ℤ, ◌∙◌, subst, ◌<◌, ap, List, ◌≤ℤ◌, Some, ◌<ℤ◌, pos, ◌-ℤ◌, ◌-◌, ◌≤◌, LocalTimeType, Zone, [], ◌+ℤ◌, ◌+◌, Option, by_lt_z, negsuc, slice_get, slice_get_within, ◌≢◌, None, same_Some, ◌∷◌, IsReachedAt, suc, IsClock, IsWideEffect, zero, Transition, cases_lt, IsLeapTimeRefused, AreReached, MatchOption, get_or, IsLeapTime, IsTimeReached, IsTypeOfLast, IsSoundTable, IsTypeAt, IsTypeAfter, AreAhead, Bor, HasNoChange, HasNoPreceding, slice_get-get_or, HasNoType, IsRunStart, LiesAt, HasNoneAfterSeam, IsPositionAt, from_start}
 use Rattle.tz_zone.proofs.LeapTimes.{leap_time_mono, one_leap_time}
-use Rattle.tz_zone.proofs.RisingTimes.{rising, ahead_from, reached_through, transitions_rise}
+use Rattle.tz_zone.proofs.RisingTimes.{rising, ahead_earlier, ahead_from, none_ahead, reached_later, reached_through, transitions_rise}
 use Rattle.tz_zone.proofs.Clocks.{one_type}
-use Rattle.tz_zone.proofs.Positions.{clock_at_position, clock_after_position, type_after_position, not_reached}
+use Rattle.tz_zone.proofs.Positions.{reached_at, clock_at_position, clock_after_position, type_after_position, not_reached}
 use Rattle.tz_zone.proofs.InstantsWithLeapTime.{plain_leap, leap_unless_refused, defined_between, effect_ahead}
 use Rattle.tz_zone.proofs.LeapReached.{reached_between}
 use Rattle.tz_zone.proofs.ChangeSpans.{HasOneType, one_type_of, none_until, none_down, none_from_start}
@@ -61,13 +61,8 @@ module _ (z : Zone) (sound : IsSoundTable z) where
       let back : k + (i - k) ≡ i = omega (arith, order) in
       let found = position_between l (i - k) k (omega (arith, order, inside)) reached
       (subst (λ (j : ℕ). AreAhead z.transitions l j) (sym back) ahead) in
-      clock_at_position z sound found.0 v t (omega (arith, found.2, back, inside)) (record {
-        time = l;
-        time_is = leap;
-        reached = found.3.0;
-        ahead = found.3.1;
-      })
-      (types found.0 found.1 (omega (arith, found.2, back)))
+      clock_at_position z sound found.0 v t (omega (arith, found.2, back, inside))
+      (reached_at z v l found.0 leap found.3) (types found.0 found.1 (omega (arith, found.2, back)))
 
   -- so it does from an instant at the first position until the transition after the second is reached
   module _ (k end : ℕ) (since : ℤ) (t : LocalTimeType) (change : Transition) (at : IsReachedAt z since k)
@@ -77,13 +72,8 @@ module _ (z : Zone) (sound : IsSoundTable z) where
         → IsClock z v t
     clock_until v l from leap before =
         clock_between k end t v l order (slice_get_within z.transitions end change at_end) types leap
-        (λ i other less at_i. omega (
-          arith,
-          ints,
-          at.reached i other less at_i,
-          leap_time_mono z.leap_seconds sound.leap_seconds_are since v
-              at.time l from at.time_is leap,
-        ))
+        (reached_later z.transitions k at.time l at.reached
+        (leap_time_mono z.leap_seconds sound.leap_seconds_are since v at.time l from at.time_is leap))
         (ahead_from z.transitions (rising z sound) l end change at_end before)
 
     pub one_type_until : (last : ℤ) → ((v : ℤ) → v ≤ℤ last → ¬ IsTimeReached z.leap_seconds change.unix_leap_time v)
@@ -144,13 +134,8 @@ module _ (z : Zone) (sound : IsSoundTable z) where
             time = leap.0;
             time_is = leap.1;
             reached = λ i change less at_i. absurd (omega (arith, less));
-            ahead = λ i change above at_i. omega (
-              arith,
-              ints,
-              at.ahead i change above at_i,
-              leap_time_mono z.leap_seconds sound.leap_seconds_are v w
-                  leap.0 at.time to leap.1 at.time_is,
-            );
+            ahead = ahead_earlier z.transitions 0 at.time leap.0 at.ahead
+                (leap_time_mono z.leap_seconds sound.leap_seconds_are v w leap.0 at.time to leap.1 at.time_is);
           }) (inl (refl, type))
 
   -- back from an instant at a position to where its run begins
@@ -206,26 +191,15 @@ module _ (z : Zone) (sound : IsSoundTable z) where
       pub position_at_start : start ≡ length z.transitions → IsReachedAt z m start
       position_at_start all =
           let leap = leap_since m (omega (arith, ints)) effect_up_to in
-          record {
-            time = leap.0;
-            time_is = leap.1;
-            reached = leap.2;
-            ahead = λ i other above at_i. absurd (omega
-                (arith, all, above, slice_get_within z.transitions i other at_i));
-          }
+          reached_at z m leap.0 start leap.1 (leap.2, none_ahead z.transitions start leap.0 (omega (arith, all)))
 
       -- otherwise the clock has the type of the run, which is that at its first position
       clock_since : (inside : k < length z.transitions) (v : ℤ) → m ≤ℤ v → v ≤ℤ w → IsClock z v (run.types inside).0
       clock_since inside v from to =
           let leap = leap_since v from to in
           clock_between start k (run.types inside).0 v leap.0 run.up_to inside (run.types inside).1 leap.1 leap.2
-          (λ i other above at_i. omega (
-            arith,
-            ints,
-            at.ahead i other above at_i,
-            leap_time_mono z.leap_seconds sound.leap_seconds_are v w leap.0
-                at.time to leap.1 at.time_is,
-          ))
+          (ahead_earlier z.transitions k at.time leap.0 at.ahead
+          (leap_time_mono z.leap_seconds sound.leap_seconds_are v w leap.0 at.time to leap.1 at.time_is))
 
       inside : start < length z.transitions → k < length z.transitions
       inside less = elim (cases_lt k (length z.transitions)) [
@@ -286,25 +260,23 @@ pub plain_position : (z : Zone) → IsSoundTable z → z.leap_seconds ≡ [] →
     → IsReachedAt z m (i + 1)
 plain_position z sound none i m change at wide = record {
   time = m;
-  time_is = plain_leap z.leap_seconds none m;
-  reached = reached_through z.transitions
-      (rising z sound) m i change at (omega (
-        arith,
-        ints,
-        reached.2,
-        one_leap_time z.leap_seconds m reached.0 m reached.1 (plain_leap z.leap_seconds none m),
-      ));
-  ahead = λ j later above at_j. omega (
-    arith,
-    ints,
-    up_to,
-    transitions_rise z.transitions (rising z sound) i j change later
-        (omega (arith, above)) at at_j,
-  );
+  time_is = leap;
+  reached = reached_through z.transitions (rising z sound) m i change at (omega (arith, ints, reached.2, same));
+  ahead = ahead_earlier z.transitions (i + 1) change.unix_leap_time m later up_to;
 }
   where
+    leap : IsLeapTime z.leap_seconds m m
+    leap = plain_leap z.leap_seconds none m
+
     reached : IsTimeReached z.leap_seconds change.unix_leap_time m
-    reached = wide.reached (plain_leap z.leap_seconds none m).not_refused
+    reached = wide.reached leap.not_refused
+
+    same : reached.0 ≡ m
+    same = one_leap_time z.leap_seconds m reached.0 m reached.1 leap
+
+    later : AreAhead z.transitions change.unix_leap_time (i + 1)
+    later j other above at_j =
+        transitions_rise z.transitions (rising z sound) i j change other (omega (arith, above)) at at_j
 
     up_to : m ≤ℤ change.unix_leap_time
     up_to = wide.least change.unix_leap_time

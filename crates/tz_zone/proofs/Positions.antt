@@ -2,7 +2,7 @@
 use Rattle.tz_zone.proofs.Common.{◌≡◌, arith, ℕ, ints, refl, sym, inr, inl, length, ℤ, ◌∙◌, subst, ◌<◌, ap, List, ◌≤ℤ◌, Some, ◌<ℤ◌, ◌-◌, ◌≤◌, LocalTimeType, Zone, [], ◌+◌, Option, by_lt_z, slice_get, slice_get_within, ◌≢◌, None, same_Some, ◌∷◌, IsReachedAt, suc, IsClock, IsWideEffect, TransitionRule, zero, Transition, eqb, MatchOption, get_or, IsLeapTime, IsTimeReached, IsTypeOfLast, IsSoundTable, IsTypeAt, IsTypeWithout, IsTypeAfter, TzError, nil_from_length, none-some, slice_get-get_or, IsBefore, IsLast, IsTypeAfterTable, eqb-suc-zero, IsFaultAfter, IsLookupFault, IsPositionAt, OutOfRange, from_start, NoAvailableLocalTimeType}
 use Rattle.tz_zone.proofs.EmptyLists.{length_of_some}
 use Rattle.tz_zone.proofs.LeapTimes.{leap_time_mono, one_leap_time}
-use Rattle.tz_zone.proofs.RisingTimes.{rising, ahead_from, reached_through}
+use Rattle.tz_zone.proofs.RisingTimes.{rising, ahead_from, reached_later, reached_through}
 use Rattle.tz_zone.proofs.Clocks.{transition_type_of_last, clock_before_last, clock_from_last, type_after_from_clock, fault_from_last, fault_without}
 use Rattle.tz_zone.proofs.InstantsWithLeapTime.{by_count, leap_unless_refused, defined_between, effect_ahead, reached_from}
 
@@ -85,13 +85,8 @@ module _ (z : Zone) (sound : IsSoundTable z) where
   position_later k low v l at order leap before = record {
     time = l;
     time_is = leap;
-    reached = λ i change less at_i. omega (
-      arith,
-      ints,
-      at.reached i change less at_i,
-      leap_time_mono z.leap_seconds sound.leap_seconds_are low v at.time l
-          order at.time_is leap,
-    );
+    reached = reached_later z.transitions k at.time l at.reached
+        (leap_time_mono z.leap_seconds sound.leap_seconds_are low v at.time l order at.time_is leap);
     ahead = λ i change from at_i.
         let next = slice_get-get_or z.transitions k change
         (omega (arith, from, slice_get_within z.transitions i change at_i)) in

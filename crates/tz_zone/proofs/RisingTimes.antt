@@ -85,6 +85,20 @@ reached_before transitions rising k before (inl (none, is)) v reached i change l
 reached_before transitions rising k before (inr (some, at_before)) v reached i change less at =
     reached_through transitions rising v (k - 1) before at_before reached i change (omega (arith, less, some)) at
 
+-- what is reached stays so, and what is ahead was so before
+pub reached_later : (transitions : List Transition) (k : ℕ) (l v : ℤ) → AreReached transitions l k → l ≤ℤ v
+    → AreReached transitions v k
+reached_later transitions k l v reached order i change less at = omega (arith, ints, reached i change less at, order)
+
+pub ahead_earlier : (transitions : List Transition) (k : ℕ) (l v : ℤ) → AreAhead transitions l k → v ≤ℤ l
+    → AreAhead transitions v k
+ahead_earlier transitions k l v ahead order i change above at = omega (arith, ints, ahead i change above at, order)
+
+-- after the last one none is ahead
+pub none_ahead : (transitions : List Transition) (k : ℕ) (l : ℤ) → length transitions ≤ k → AreAhead transitions l k
+none_ahead transitions k l all i change above at =
+    absurd (omega (arith, all, above, slice_get_within transitions i change at))
+
 -- and those of leap seconds
 pub leap_seconds_rise : (leaps : List LeapSecond) → AreLeapSeconds leaps
     → Rise (λ (l : LeapSecond). l.unix_leap_time) leaps

@@ -1,7 +1,8 @@
 -- Where a segment of the clock begins and ends the tables change.
-use Rattle.tz_zone.proofs.Common.{◌≡◌, arith, ℕ, ints, refl, sym, inr, inl, length, ℤ, subst, ap, List, ◌≤ℤ◌, Some, ◌<ℤ◌, pos, ◌-ℤ◌, ◌-◌, Zone, [], ◌+ℤ◌, by_lt_z, negsuc, LeapSecond, slice_get, slice_get_within, ◌≢◌, same_Some, ◌∷◌, ◌⊎◌, IsReachedAt, AreLeapSeconds, IsWideEffect, IsInstant, Transition, IsLeapTimeRefused, IsPastInstants, IsTimeReached, IsSoundTable, IsBeforeStart, none-some, IsBefore, IsChangeByRule, HasTableEnds, IsFar, IsTableChange}
+use Rattle.tz_zone.proofs.Common.{◌≡◌, arith, ℕ, ints, refl, sym, inr, inl, length, ℤ, subst, ap, List, ◌≤ℤ◌, Some, ◌<ℤ◌, pos, ◌-ℤ◌, ◌-◌, Zone, [], ◌+ℤ◌, by_lt_z, negsuc, LeapSecond, slice_get, ◌≢◌, same_Some, ◌∷◌, ◌⊎◌, IsReachedAt, AreLeapSeconds, IsWideEffect, IsInstant, Transition, IsLeapTimeRefused, IsPastInstants, IsTimeReached, IsSoundTable, IsBeforeStart, none-some, IsBefore, IsChangeByRule, HasTableEnds, IsFar, IsTableChange}
 use Rattle.tz_zone.proofs.LeapLists.{first_step}
-use Rattle.tz_zone.proofs.RisingTimes.{rising, reached_before}
+use Rattle.tz_zone.proofs.RisingTimes.{rising, none_ahead, reached_before}
+use Rattle.tz_zone.proofs.Positions.{reached_at}
 use Rattle.tz_zone.proofs.LeapTimes.{leap_time_mono, past_later, begun_later, not_past_within, not_refused_within, IsInstant-from_bounds, instant_bounds}
 use Rattle.tz_zone.proofs.InstantsWithLeapTime.{plain_leap, leap_unless_refused, leap_time_low, defined_at_effect}
 
@@ -166,12 +167,10 @@ module _ (z : Zone) (sound : IsSoundTable z) (u : ℤ) (k : ℕ) (fits : IsInsta
   -- where the last transition is reached all are
   pub all_reached : k ≡ length z.transitions → (v : ℤ) → IsTimeReached z.leap_seconds before.unix_leap_time v
       → IsReachedAt z v (length z.transitions)
-  all_reached all v (l, leap, reached) = subst (IsReachedAt z v) all (record {
-    time = l;
-    time_is = leap;
-    reached = reached_before z.transitions (rising z sound) k before is l reached;
-    ahead = λ i change above at_i. absurd (omega (arith, all, above, slice_get_within z.transitions i change at_i));
-  })
+  all_reached all v (l, leap, reached) = subst (IsReachedAt z v) all (reached_at z v l k leap (
+    reached_before z.transitions (rising z sound) k before is l reached,
+    none_ahead z.transitions k l (omega (arith, all)),
+  ))
 
   -- and the ends of a segment after all transitions are changes, too
   pub ends_after_all : k ≡ length z.transitions → (from last : ℤ) → from ≤ℤ last

@@ -2,6 +2,7 @@
 use Rattle.tz_zone.proofs.Common.{◌≡◌, ℕ, ℤ, ◌≤ℤ◌, Some, Zone, by_lt_z, slice_get, IsReachedAt, AreLeapSeconds, IsWideEffect, IsInstant, Transition, IsPastInstants, IsTimeReached, IsSoundTable, IsBefore, IsRising}
 use Rattle.tz_zone.proofs.RisingTimes.{ahead_from, reached_before}
 use Rattle.tz_zone.proofs.LeapReached.{reached_since}
+use Rattle.tz_zone.proofs.Positions.{reached_at}
 use Rattle.tz_zone.proofs.SegmentEnds.{before_reached}
 
 module _ (z : Zone) (sound : IsSoundTable z) (u : ℤ) (k : ℕ) (fits : IsInstant u) (at : IsReachedAt z u k)
@@ -23,10 +24,8 @@ module _ (z : Zone) (sound : IsSoundTable z) (u : ℤ) (k : ℕ) (fits : IsInsta
       → m ≤ℤ v → v ≤ℤ last → IsReachedAt z v k
   lies_since next at_next last v within ahead low high =
       let (l, leap, reached) = reached_since z.leap_seconds are before.unix_leap_time m last v wide within low high in
-      record {
-        time = l;
-        time_is = leap;
-        reached = reached_before z.transitions rising k before is l reached;
-        ahead = ahead_from z.transitions rising l k next at_next
-            (by_lt_z l next.unix_leap_time (λ h. h) (λ h. absurd (ahead v high (l, leap, h))));
-      }
+      let early = by_lt_z l next.unix_leap_time (λ h. h) (λ h. absurd (ahead v high (l, leap, h))) in
+      reached_at z v l k leap (
+        reached_before z.transitions rising k before is l reached,
+        ahead_from z.transitions rising l k next at_next early,
+      )

@@ -1,10 +1,11 @@
 -- Without leap seconds no other transition takes effect there; with some those that the loop passes are reached, and
 -- the next one is ahead.
-use Rattle.tz_zone.proofs.Common.{arith, to_z-of_z, rules, ints, w64, refl, ◌≤ℤ◌, ◌<ℤ◌, zone_of_data, slice_get_within, slice_get_read}
+use Rattle.tz_zone.proofs.Common.{arith, to_z-of_z, rules, ints, w64, refl, ◌≤ℤ◌, ◌<ℤ◌, zone_of_data, slice_get_read}
 use Rattle.tz_zone.proofs.EmptyLists.{none_if_empty}
 use Rattle.tz_zone.proofs.LeapTimes.{one_leap_time}
 use Rattle.tz_zone.proofs.PositionRuns.{plain_position}
-use Rattle.tz_zone.proofs.RisingTimes.{rising, ahead_from, reached_through}
+use Rattle.tz_zone.proofs.Positions.{reached_at}
+use Rattle.tz_zone.proofs.RisingTimes.{rising, ahead_from, none_ahead, reached_through}
 use Rattle.tz_zone.proofs.clock.changes.position_at_effect.Goals as goal
 
 pub returns-then-is_empty-clause-at : goal.returns-then-is_empty-clause-at
@@ -59,26 +60,23 @@ returns-else-unix_leap_time-clause-at c =
     let leap_time = to_z-of_z w64 l (search rules) in
     let at_next = slice_get_read list _ k next refl c.loop-position-test.true c.index-transitions-position.is in
     let before : l <ℤ next.unix_leap_time =
-    omega (arith, ints, c.if-unix_leap_time.false, c.unix_leap_time.ensures, time, leap_time) in (
+    omega (arith, ints, c.if-unix_leap_time.false, c.unix_leap_time.ensures, time, leap_time) in
+    let z = zone_of_data c.args.zone.now in
+    let leap = rw (to_z-of_z w64 c.args.effect c.ranges.effect) at c.existing_leap_time-unix_leap_time.ensures in
+    let reached = rw leap_time at c.loop-position.invariant.reached in (
       c.loop-position.invariant.within,
-      record {
-        time = l;
-        time_is = rw (to_z-of_z w64 c.args.effect c.ranges.effect) at c.existing_leap_time-unix_leap_time.ensures;
-        reached = rw leap_time at c.loop-position.invariant.reached;
-        ahead = ahead_from list (rising (zone_of_data c.args.zone.now) c.args.zone.now.sound) l k next at_next before;
-      },
+      reached_at z c.args.effect l k leap
+          (reached, ahead_from list (rising z c.args.zone.now.sound) l k next at_next before),
     )
 
 pub returns-after-loop-position-clause-at : goal.returns-after-loop-position-clause-at
 returns-after-loop-position-clause-at c =
     let list = c.args.zone.now.transitions.now in
-    let l = c.existing_leap_time-unix_leap_time.result in (
+    let l = c.existing_leap_time-unix_leap_time.result in
+    let k = c.loop-position.position in
+    let leap = rw (to_z-of_z w64 c.args.effect c.ranges.effect) at c.existing_leap_time-unix_leap_time.ensures in
+    let reached = rw (to_z-of_z w64 l (search rules)) at c.loop-position.invariant.reached in (
       c.loop-position.invariant.within,
-      record {
-        time = l;
-        time_is = rw (to_z-of_z w64 c.args.effect c.ranges.effect) at c.existing_leap_time-unix_leap_time.ensures;
-        reached = rw (to_z-of_z w64 l (search rules)) at c.loop-position.invariant.reached;
-        ahead = λ i next above at. absurd (omega
-            (arith, c.loop-position-test.false, above, slice_get_within list i next at));
-      },
+      reached_at (zone_of_data c.args.zone.now) c.args.effect l k leap
+          (reached, none_ahead list k l (omega (arith, c.loop-position-test.false))),
     )
