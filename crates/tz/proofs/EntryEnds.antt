@@ -1,5 +1,5 @@
 -- Entries that are all inside the years of 32 bits have a list of date times, and its ends are those of the entries.
-use Rattle.tz.proofs.Common.{arith, refl, ◌≡◌, ◌≢◌, subst, ◌∙◌, inr, sym, [], ap, ℕ, ◌∷◌, ◌<◌, List, length, ℤ, Fields, IsClock, Some, Zone, ◌++◌, suc, ◌-ℤ◌, zero, ◌+ℤ◌, ◌-◌, IsValid, None, Option, LocalTimeType, reading, Shown, get_or, Jump, Normal, Entry, FoundDateTimeKind, length-append, Clock, DateTime, EachCanBeMade, IsReading, Skipped, TzError, IsEntryInside, IsFound, IsEntryIn, ShowsByClock, All, Disambiguation, HasMeaning, IsClockFault, IsMeaning, IsMeantIn, More, ShowsInstant, entry_of, instant_meant, moment_of, ⊤, AllZip, AllZip-long, Bor, Compatible, Earlier, IsMadeOf, IsMeaningFault, IsRefused, IsSearchFault, Later, Nothing, Once, Reject, Shows, Twice, meaning_of, option_map, option_or, slice_get, slice_get-get_or, All-head, All-tail, AreMore, GainsInside, HasInside, IsEndsOf, IsOutsideFault, IsTaker, first_entry, gains_more, gains_none, instant_between}
+use Rattle.tz.proofs.Common.{arith, refl, ◌≡◌, ◌≢◌, subst, ◌∙◌, inr, sym, [], ap, ℕ, ◌∷◌, ◌<◌, List, length, ℤ, Fields, IsClock, Some, Zone, ◌++◌, suc, ◌-ℤ◌, zero, ◌+ℤ◌, ◌-◌, IsValid, None, Option, LocalTimeType, reading, Shown, Jump, Normal, Entry, FoundDateTimeKind, length-append, Clock, DateTime, EachCanBeMade, IsReading, Skipped, TzError, IsEntryInside, IsFound, IsEntryIn, ShowsByClock, All, Disambiguation, HasMeaning, IsClockFault, IsMeaning, IsMeantIn, More, ShowsInstant, entry_of, instant_meant, moment_of, ⊤, AllZip, AllZip-long, Bor, Compatible, Earlier, IsMadeOf, IsMeaningFault, IsRefused, IsSearchFault, Later, Nothing, Once, Reject, Shows, Twice, meaning_of, option_map, option_or, slice_get, All-head, All-tail, AreMore, GainsInside, HasInside, IsEndsOf, IsOutsideFault, IsTaker, first_entry, gains_more, gains_none, instant_between}
 use Rattle.tz.specs.EntryEnds.{entry_meant, first_shown, last_entry}
 use Rattle.tz.specs.Choices.{entry_meant as found_meant, first_shown as first_found_shown, last_entry as last_found}
 use Rattle.tz.specs.declared.datetime.entry_ends.EntryEnds.{EntryEnds}
@@ -116,14 +116,6 @@ two_of (x ∷ y ∷ []) ends are e g two first last =
     sym are.last_is ∙ ap (λ (k : Option BorrowedEntry). option_map entry_of k) last in
     ap (λ (k : Entry). k ∷ y ∷ []) (cc same) ∙ ap (λ (k : Entry). entry_of e ∷ k ∷ []) (cc same')
 two_of (x ∷ y ∷ w ∷ es) ends are e g two first last = absurd (omega (arith, are.count_is, two))
-
-pub none_of_last : (es : List Entry) (ends : EntryEnds) → IsEndsOf es ends → ends.last ≡ None → es ≡ []
-none_of_last [] ends are none = refl
-none_of_last (e ∷ es) ends are none =
-    let last : last_entry (e ∷ es) ≡ Some (get_or (e ∷ es) (length es) e) =
-    ap (λ (i : ℕ). slice_get (e ∷ es) i) (omega arith) ∙ slice_get-get_or (e ∷ es) (length es) e (omega arith) in
-    let wrong = ap (λ (k : Option BorrowedEntry). option_map entry_of k) none in
-    absurd (cc (are.last_is, wrong, last))
 
 -- two of which the last is a jump are more than a fold
 ends_in_jump : (x : Entry) (u : ℤ) (a b : LocalTimeType) → AreMore (x ∷ Jump u a b ∷ [])

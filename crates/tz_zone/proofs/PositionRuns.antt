@@ -304,15 +304,3 @@ plain_position_before z sound none i change at = record {
   );
   ahead = ahead_from z.transitions (rising z sound) (change.unix_leap_time -ℤ pos 1) i change at (omega (arith, ints));
 }
-
--- and from the time of the last transition on all are reached
-pub plain_end : (z : Zone) → IsSoundTable z → z.leap_seconds ≡ [] → (u : ℤ) (last : Transition)
-    → slice_get z.transitions (length z.transitions - 1) ≡ Some last → last.unix_leap_time ≤ℤ u
-    → IsReachedAt z u (length z.transitions)
-plain_end z sound none u last at up_to = record {
-  time = u;
-  time_is = plain_leap z.leap_seconds none u;
-  reached = λ i other less at_i. reached_through z.transitions (rising z sound) u (length z.transitions - 1)
-      last at up_to i other (omega (arith, less)) at_i;
-  ahead = λ j later above at_j. absurd (omega (arith, above, slice_get_within z.transitions j later at_j));
-}

@@ -1,5 +1,5 @@
 -- What the loops over a table give: facts at all indexes, from facts at the indexes so far.
-use Rattle.tz_zone.proofs.Common.{◌≡◌, arith, to_z-of_z, ℕ, ints, w64, refl, sym, length, ℤ, ◌∙◌, ◌<◌, List, Some, ◌<ℤ◌, ◌≤◌, ◌+◌, SFits, LeapSecond, slice_get, slice_get_within, slice_get_read, to_z, false, same_Some, of_z, AreLeapSeconds, true, Bool, Transition, get_or, MatchBool, FollowsAt, HasTypeAtIndex, RisesAtIndex, MatchBool-lt_z, MayBeFirst, below_more, false≢true, ◌&&◌}
+use Rattle.tz_zone.proofs.Common.{◌≡◌, arith, to_z-of_z, ℕ, ints, w64, refl, sym, length, ℤ, ◌∙◌, ◌<◌, List, Some, ◌<ℤ◌, ◌≤◌, ◌+◌, SFits, LeapSecond, slice_get, slice_get_within, slice_get_read, to_z, false, same_Some, of_z, AreLeapSeconds, true, Bool, Transition, get_or, MatchBool, FollowsAt, HasTypeAtIndex, RisesAtIndex, MatchBool-lt_z, MayBeFirst}
 use Rattle.std.specs.Int.Signed.{lt_z}
 
 -- what is read at an index is its item
@@ -44,10 +44,3 @@ transitions_from_loop transitions types n all so_far index = (
   λ change next at at_next. (so_far index (omega (arith, all, slice_get_within transitions index change at))).1 change
       next at at_next,
 )
-
--- what a loop tests at each index holds at all so far, if each test succeeded
-pub all_more : (Q : ℕ → Type 0) (so_far this : Bool) (i : ℕ) → (so_far ≡ true → (index : ℕ) → index < i → Q index)
-    → MatchBool this (Q i) (¬ Q i) → (so_far && this) ≡ true → (index : ℕ) → index < i + 1 → Q index
-all_more Q true true i all one both = below_more Q i (all refl) one
-all_more Q true false i all one both = absurd (false≢true both)
-all_more Q false this i all one both = absurd (false≢true both)

@@ -1,5 +1,5 @@
 -- The offsets are kept as they are passed.
-use Rattle.tz_zone.proofs.Common.{to_z-of_z, rules, w32}
+use Rattle.tz_zone.proofs.Common.{to_z-of_z, w32}
 use Rattle.tz_zone.proofs.timezone.zone_data.ZoneData.from_valid_parts.Goals as goal
 
 pub invariant_of-result : goal.invariant_of-result
