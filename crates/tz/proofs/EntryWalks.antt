@@ -50,22 +50,9 @@ module _ (r : ℤ) (before : Option LocalTimeType) (since : ℤ) (type : Option 
   none_beside s t v was is at_v early not_over (Shown w x) (type_is, within, shown) =
       absurd (omega (arith, ints, at_v, early, shown, within.0, same_offset type t x is type_is))
   none_beside s t v was is at_v early not_over (Jump w a b) (here, was', type_is, over) =
-      absurd (not_over (
-        omega (
-          arith,
-          ints,
-          here,
-          over.0,
-          same_offset before s a was was',
-        ),
-        omega (
-          arith,
-          ints,
-          here,
-          over.1,
-          same_offset type t b is type_is,
-        ),
-      ))
+      let same = same_offset before s a was was' in
+      let same' = same_offset type t b is type_is in
+      absurd (not_over (omega (arith, ints, here, over.0, same), omega (arith, ints, here, over.1, same')))
 
   -- it is one entry at most
   entry_unique : (e g : Entry) → IsEntryOf r before since type last e → IsEntryOf r before since type last g → e ≡ g
@@ -85,16 +72,8 @@ module _ (clock : Clock) (low high r : ℤ) (offsets : AreOffsetsAround clock lo
   in_window : (e : Entry) → IsEntryIn clock r e → (low ≤ℤ instant_of e) × (instant_of e ≤ℤ high)
   in_window (Shown u t) shows = let offset = offsets u t shows.0 in
       (omega (arith, ints, shows.1, offset.1), omega (arith, ints, shows.1, offset.0))
-  in_window (Jump u a b) passes = (
-    omega (arith, ints, passes.2.1, (offsets u b passes.1).1),
-    omega (
-      arith,
-      ints,
-      passes.2.0,
-      (offsets
-          (u -ℤ pos 1) a passes.0).0,
-    ),
-  )
+  in_window (Jump u a b) passes = let before = offsets (u -ℤ pos 1) a passes.0 in
+      (omega (arith, ints, passes.2.1, (offsets u b passes.1).1), omega (arith, ints, passes.2.0, before.0))
 
   jump_in_window : (u : ℤ) (a b : LocalTimeType) → PassesOver clock r u a b → low <ℤ u
   jump_in_window u a b passes = omega (arith, ints, passes.2.1, (offsets u b passes.1).1)
@@ -160,14 +139,8 @@ module _ (clock : Clock) (low high r : ℤ) (offsets : AreOffsetsAround clock lo
         let is = (holds u from to b).0 passes.1 in
         by_lt_z since u
         (λ later.
-        absurd (omega (
-          arith,
-          ints,
-          passes.2.0,
-          passes.2.1,
-          same_offset type a b
-              ((holds (u -ℤ pos 1) (omega (arith, ints, later)) (omega (arith, ints, to)) a).0 passes.0) is,
-        )))
+        let was = (holds (u -ℤ pos 1) (omega (arith, ints, later)) (omega (arith, ints, to)) a).0 passes.0 in
+        absurd (omega (arith, ints, passes.2.0, passes.2.1, same_offset type a b was is)))
         (λ not_later.
         let at : u ≡ since = omega (arith, ints, not_later, from) in
         elim just [
@@ -301,20 +274,14 @@ module _ (z : Zone) (r jump : ℤ) (a b : LocalTimeType) (has : HasTwoTypes z r 
 
   -- the instants at which the types show the reading are in the window
   pub from_low : (u : ℤ) → u ≡ r -ℤ a.ut_offset → has.low ≤ℤ u
-  from_low u at = omega (
-    arith,
-    ints,
-    at,
-    (has.offsets_are has.low a (has.types_are.2 has.low (omega (arith, ints)) has.types_are.0)).1,
-  )
+  from_low u at =
+      let offset = has.offsets_are has.low a (has.types_are.2 has.low (omega (arith, ints)) has.types_are.0) in
+      omega (arith, ints, at, offset.1)
 
   pub up_to_high : (v : ℤ) → v ≡ r -ℤ b.ut_offset → v ≤ℤ has.high
-  up_to_high v at = omega (
-    arith,
-    ints,
-    at,
-    (has.offsets_are jump b (has.types_are.3 jump (omega (arith, ints)) has.types_are.1)).0,
-  )
+  up_to_high v at =
+      let offset = has.offsets_are jump b (has.types_are.3 jump (omega (arith, ints)) has.types_are.1) in
+      omega (arith, ints, at, offset.0)
 
   first_some : has.low ≤ℤ (jump -ℤ pos 1)
   first_some = omega (arith, ints, has.types_are.0)

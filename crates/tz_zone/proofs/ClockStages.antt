@@ -67,14 +67,8 @@ module _ (z : Zone) (sound : IsSoundTable z) (first since : ℤ) (s : Stage) (st
     pub ahead_at_first : ¬ IsTimeReached z.leap_seconds next.unix_leap_time first
     ahead_at_first reached =
         let (l, leap, ahead) = stage.ahead some in
-        absurd (omega (
-          arith,
-          ints,
-          ahead s.position next (omega arith) at_next,
-          reached.2,
-          one_leap_time z.leap_seconds first l
-              reached.0 leap reached.1,
-        ))
+        let same = one_leap_time z.leap_seconds first l reached.0 leap reached.1 in
+        absurd (omega (arith, ints, ahead s.position next (omega arith) at_next, reached.2, same))
 
     -- until it is reached the clock keeps its type
     pub clock_before_next : (v : ℤ) → since ≤ℤ v → v ≤ℤ pos 80000000000000000

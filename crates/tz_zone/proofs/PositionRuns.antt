@@ -147,15 +147,8 @@ module _ (z : Zone) (sound : IsSoundTable z) where
         | inl less ↦ less
         | inr more ↦
             let at = lies.1 in
-            absurd (omega (
-              arith,
-              ints,
-              run.effect.least (m -ℤ pos 1) (
-                at.time,
-                at.time_is,
-                at.reached (start - 1) run.change (omega (arith, run.some, more)) run.change_is,
-              ),
-            ))
+            let reached = at.reached (start - 1) run.change (omega (arith, run.some, more)) run.change_is in
+            absurd (omega (arith, ints, run.effect.least (m -ℤ pos 1) (at.time, at.time_is, reached)))
       ]
 
       pub clock_before_start : (t : LocalTimeType) → IsTypeOfLast z e t → IsClock z (m -ℤ pos 1) t

@@ -70,14 +70,8 @@ module _ (z : Zone) (sound : IsSoundTable z) where
   pub not_reached : (u : ℤ) (k i : ℕ) (next : Transition) → IsReachedAt z u k → k ≤ i
       → slice_get z.transitions i ≡ Some next → ¬ IsTimeReached z.leap_seconds next.unix_leap_time u
   not_reached u k i next at from at_i reached =
-      absurd (omega (
-        arith,
-        ints,
-        at.ahead i next from at_i,
-        reached.2,
-        one_leap_time z.leap_seconds u at.time reached.0 at.time_is
-            reached.1,
-      ))
+      let same = one_leap_time z.leap_seconds u at.time reached.0 at.time_is reached.1 in
+      absurd (omega (arith, ints, at.ahead i next from at_i, reached.2, same))
 
   -- a position at which some instant lies, and after which no transition is reached later, is that of the later instant
   pub position_later : (k : ℕ) (low v l : ℤ) → IsReachedAt z low k → low ≤ℤ v → IsLeapTime z.leap_seconds v l

@@ -95,21 +95,8 @@ module _ (z : Zone) (sound : IsSoundTable z) (u : ℤ) (k : ℕ) (fits : IsInsta
             let instant = IsInstant-from_bounds (m -ℤ pos 1) (omega (arith, ints, above))
             (omega (arith, ints, up_to, (instant_bounds u fits).1)) in
             let here = leap_unless_refused z.leap_seconds are (m -ℤ pos 1) (defined begun) in
-            absurd (omega (
-              arith,
-              ints,
-              wide.least (m -ℤ pos 1) (
-                here.0,
-                here.1,
-                omega (
-                  arith,
-                  ints,
-                  low,
-                  leap_time_low z.leap_seconds are (m -ℤ pos 1) here.0 instant
-                      here.1,
-                ),
-              ),
-            ))
+            let from = leap_time_low z.leap_seconds are (m -ℤ pos 1) here.0 instant here.1 in
+            absurd (omega (arith, ints, wide.least (m -ℤ pos 1) (here.0, here.1, omega (arith, ints, low, from))))
       ]
         where
           defined : ¬ IsBeforeStart z.leap_seconds (m -ℤ pos 1) → ¬ IsLeapTimeRefused z.leap_seconds (m -ℤ pos 1)

@@ -9,6 +9,7 @@ returns-in_default-before-clause-ok g c =
     let u = c.shown_at-unix_time.result in
     let unix_time_is = to_z-of_z w64 u (search rules) in
     let since_is = to_z-of_z w64 c.args.since c.ranges.since in
+    let last_is = to_z-of_z w64 c.args.last c.ranges.last in
     let reading_is = to_z-of_z w64 c.args.reading c.ranges.reading in
     let at = rw reading_is at c.shown_at-unix_time.ensures in (
       [],
@@ -20,13 +21,7 @@ returns-in_default-before-clause-ok g c =
               none_late c.args.reading (borrowed_type c.args.before) c.args.since (borrowed_type c.args.local_time_type)
               c.args.last c.in-Some.after.now u (ap borrowed_type c.in-Some.is) at
               (omega (arith, ints, w.if-since-unix_time.true, since_is, unix_time_is))
-              (omega (
-                arith,
-                ints,
-                w.if-unix_time-last.false,
-                to_z-of_z w64 c.args.last c.ranges.last,
-                unix_time_is,
-              ))
+              (omega (arith, ints, w.if-unix_time-last.false, last_is, unix_time_is))
           | else-since-unix_time-via-else-since-unix_time w ↦
               none_beside c.args.reading (borrowed_type c.args.before) c.args.since
               (borrowed_type c.args.local_time_type) c.args.last c.in-Some-before.before.now
@@ -43,6 +38,7 @@ returns-in_default-before-2-clause-ok g c =
     let u = c.shown_at-unix_time.result in
     let unix_time_is = to_z-of_z w64 u (search rules) in
     let since_is = to_z-of_z w64 c.args.since c.ranges.since in
+    let last_is = to_z-of_z w64 c.args.last c.ranges.last in
     let at = rw (to_z-of_z w64 c.args.reading c.ranges.reading) at c.shown_at-unix_time.ensures in (
       [],
       c.requires.takes.is_taker.none c.args.entries.now,
@@ -53,13 +49,7 @@ returns-in_default-before-2-clause-ok g c =
               none_late c.args.reading (borrowed_type c.args.before) c.args.since (borrowed_type c.args.local_time_type)
               c.args.last c.in-Some.after.now u (ap borrowed_type c.in-Some.is) at
               (omega (arith, ints, w.if-since-unix_time.true, since_is, unix_time_is))
-              (omega (
-                arith,
-                ints,
-                w.if-unix_time-last.false,
-                to_z-of_z w64 c.args.last c.ranges.last,
-                unix_time_is,
-              ))
+              (omega (arith, ints, w.if-unix_time-last.false, last_is, unix_time_is))
           | else-since-unix_time-via-else-since-unix_time w ↦
               none_first c.args.reading (borrowed_type c.args.before) c.args.since
               (borrowed_type c.args.local_time_type) c.args.last c.in-Some.after.now u

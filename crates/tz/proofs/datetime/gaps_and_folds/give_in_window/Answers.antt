@@ -17,13 +17,9 @@ shown-requires g c =
 
 pub walk-answer-requires : goal.walk-answer-requires
 walk-answer-requires g c =
-    rw (
-      to_z-of_z w64 c.args.reading c.ranges.reading,
-      to_z-of_z w64 c.args.low c.ranges.low,
-      to_z-of_z w64 c.args.high
-          c.ranges.high,
-    )
-    (λ k. (
+    let reading_is = to_z-of_z w64 c.args.reading c.ranges.reading in
+    let low_is = to_z-of_z w64 c.args.low c.ranges.low in
+    rw (reading_is, low_is, to_z-of_z w64 c.args.high c.ranges.high) (λ k. (
       (refl, tt),
       (
         c.fresh-rest.ensures.list ∙ c.requires.view,

@@ -37,12 +37,9 @@ returns g c =
     let low = c.window_of-low.result.0 in
     let high = c.window_of-low.result.1 in
     let window = rw reading_is at c.window_of-low.ensures.window in
-    let searched = rw (
-      c.requires.view,
-      to_z-of_z w64 low (search rules),
-      to_z-of_z w64 high
-          (search rules),
-    ) at c.search_window.ensures in
+    let low_is = to_z-of_z w64 low (search rules) in
+    let high_is = to_z-of_z w64 high (search rules) in
+    let searched = rw (c.requires.view, low_is, high_is) at c.search_window.ensures in
     record {
       ok = on_ok_weaker c.search_window.result (λ given.
           let dated = given.1 in

@@ -25,26 +25,13 @@ returns-clause-at c =
     let ahead : (i : ℕ) (x : Transition) → i < 4 → l <ℤ (get_or four i x).unix_leap_time
     → AreAhead list l (first + i) =
     λ i x below. ahead_from list c.requires.rising l (first + i) (get_or four i x) (at i x below) in
+    let first_is = to_z-of_z w64 c.unix_leap_time-2.result (search rules) in
     let first_reached : (get_or four 0 a).unix_leap_time ≤ℤ l =
-    omega (
-      arith,
-      ints,
-      c.if-unix_leap_time.false,
-      c.unix_leap_time-2.ensures,
-      to_z-of_z w64 c.unix_leap_time-2.result
-          (search rules),
-      time_is,
-    ) in
+    omega (arith, ints, c.if-unix_leap_time.false, c.unix_leap_time-2.ensures, first_is, time_is) in
+    let last_time = c.unix_leap_time-else-unix_leap_time in
+    let last_is = to_z-of_z w64 last_time.result (search rules) in
     let last_ahead : l <ℤ (get_or four 3 e).unix_leap_time =
-    omega (
-      arith,
-      ints,
-      c.if-unix_leap_time-2.false,
-      c.unix_leap_time-else-unix_leap_time.ensures,
-      to_z-of_z w64
-          c.unix_leap_time-else-unix_leap_time.result (search rules),
-      time_is,
-    ) in
+    omega (arith, ints, c.if-unix_leap_time-2.false, last_time.ensures, last_is, time_is) in
     elim (rw time_is at c.later_if_reached.ensures) [
       | inl (is, third_reached) ↦
           subst (λ (k : ℕ). IsPositionAt list l k) (omega (arith, is))

@@ -41,15 +41,9 @@ place_in_block-requires-clause-among c =
     let start = c.len-count.result - 128 in
     let time_is = to_z-of_z w64 l c.ranges.unix_leap_time in
     let last = get_or c.in_ok-early.early.now 127 c.index-early.result in
+    let read_is = to_z-of_z w64 c.unix_leap_time.result (search rules) in
     let reached : last.unix_leap_time ≤ℤ l =
-    omega (
-      arith,
-      ints,
-      c.if-unix_leap_time.true,
-      c.unix_leap_time.ensures,
-      to_z-of_z w64 c.unix_leap_time.result (search rules),
-      time_is,
-    ) in
+    omega (arith, ints, c.if-unix_leap_time.true, c.unix_leap_time.ensures, read_is, time_is) in
     let among =
     among_late list c.requires.rising l c.in_ok-early.early.now c.in_ok-early.ensures c.index-early.result start
     (omega (arith, c.if-count-lt-BLOCK.false, c.len-count.ensures)) (omega (arith, c.if-count.false)) reached
@@ -58,24 +52,15 @@ place_in_block-requires-clause-among c =
 
 pub overflow_add-result : goal.overflow_add-result
 overflow_add-result c =
-    omega (
-      arith,
-      c.place_in_block.ensures,
-      c.in_ok-late.ensures,
-      c.args.view.now.fits,
-      length_is (list_of c.args.view.now)
-          (c.len-count.result - 128) 128 c.in_ok-late.late.now c.in_ok-late.ensures,
-    )
+    let late = c.in_ok-late in
+    let whole = length_is (list_of c.args.view.now) (c.len-count.result - 128) 128 late.late.now late.ensures in
+    omega (arith, c.place_in_block.ensures, late.ensures, c.args.view.now.fits, whole)
 
 pub returns-then-unix_leap_time-clause-within : goal.returns-then-unix_leap_time-clause-within
 returns-then-unix_leap_time-clause-within c =
-    omega (
-      arith,
-      c.place_in_block.ensures,
-      c.in_ok-late.ensures,
-      length_is (list_of c.args.view.now)
-          (c.len-count.result - 128) 128 c.in_ok-late.late.now c.in_ok-late.ensures,
-    )
+    let late = c.in_ok-late in
+    let whole = length_is (list_of c.args.view.now) (c.len-count.result - 128) 128 late.late.now late.ensures in
+    omega (arith, c.place_in_block.ensures, late.ensures, whole)
 
 pub returns-then-unix_leap_time-clause-at : goal.returns-then-unix_leap_time-clause-at
 returns-then-unix_leap_time-clause-at c =
@@ -84,15 +69,9 @@ returns-then-unix_leap_time-clause-at c =
     let start = c.len-count.result - 128 in
     let time_is = to_z-of_z w64 l c.ranges.unix_leap_time in
     let last = get_or c.in_ok-early.early.now 127 c.index-early.result in
+    let read_is = to_z-of_z w64 c.unix_leap_time.result (search rules) in
     let reached : last.unix_leap_time ≤ℤ l =
-    omega (
-      arith,
-      ints,
-      c.if-unix_leap_time.true,
-      c.unix_leap_time.ensures,
-      to_z-of_z w64 c.unix_leap_time.result (search rules),
-      time_is,
-    ) in
+    omega (arith, ints, c.if-unix_leap_time.true, c.unix_leap_time.ensures, read_is, time_is) in
     let among =
     among_late list c.requires.rising l c.in_ok-early.early.now c.in_ok-early.ensures c.index-early.result start
     (omega (arith, c.if-count-lt-BLOCK.false, c.len-count.ensures)) (omega (arith, c.if-count.false)) reached
@@ -114,15 +93,9 @@ place_in_block-requires-2-clause-among c =
     let l = c.args.unix_leap_time in
     let time_is = to_z-of_z w64 l c.ranges.unix_leap_time in
     let last = get_or c.in_ok-early.early.now 127 c.index-early.result in
+    let read_is = to_z-of_z w64 c.unix_leap_time.result (search rules) in
     let ahead : l <ℤ last.unix_leap_time =
-    omega (
-      arith,
-      ints,
-      c.if-unix_leap_time.false,
-      c.unix_leap_time.ensures,
-      to_z-of_z w64 c.unix_leap_time.result (search rules),
-      time_is,
-    ) in
+    omega (arith, ints, c.if-unix_leap_time.false, c.unix_leap_time.ensures, read_is, time_is) in
     let among =
     among_early list c.requires.rising l c.in_ok-early.early.now c.in_ok-early.ensures c.index-early.result ahead in
     rw time_is (among_places list 0 128 c.in_ok-early.early.now c.in_ok-early.ensures l (omega arith) among)
@@ -133,15 +106,9 @@ returns-clause-at c =
     let l = c.args.unix_leap_time in
     let time_is = to_z-of_z w64 l c.ranges.unix_leap_time in
     let last = get_or c.in_ok-early.early.now 127 c.index-early.result in
+    let read_is = to_z-of_z w64 c.unix_leap_time.result (search rules) in
     let ahead : l <ℤ last.unix_leap_time =
-    omega (
-      arith,
-      ints,
-      c.if-unix_leap_time.false,
-      c.unix_leap_time.ensures,
-      to_z-of_z w64 c.unix_leap_time.result (search rules),
-      time_is,
-    ) in
+    omega (arith, ints, c.if-unix_leap_time.false, c.unix_leap_time.ensures, read_is, time_is) in
     let among =
     among_early list c.requires.rising l c.in_ok-early.early.now c.in_ok-early.ensures c.index-early.result ahead in
     let at =

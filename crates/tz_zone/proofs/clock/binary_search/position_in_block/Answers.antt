@@ -15,14 +15,9 @@ place_in_block-requires-clause-among c =
 
 pub overflow_add-result : goal.overflow_add-result
 overflow_add-result c =
-    omega (
-      arith,
-      c.place_in_block.ensures,
-      c.in-Some.ensures,
-      c.args.view.now.fits,
-      length_is (list_of c.args.view.now)
-          c.args.position 128 c.in-Some.block.now c.in-Some.ensures,
-    )
+    let some = c.in-Some in
+    let whole = length_is (list_of c.args.view.now) c.args.position 128 some.block.now some.ensures in
+    omega (arith, c.place_in_block.ensures, some.ensures, c.args.view.now.fits, whole)
 
 pub returns-in-Some-clause-among : goal.returns-in-Some-clause-among
 returns-in-Some-clause-among c =

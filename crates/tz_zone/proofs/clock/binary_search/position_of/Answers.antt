@@ -8,34 +8,21 @@ position_before-requires-clause-ahead c =
     let list = list_of c.args.view.now in
     let l = c.args.unix_leap_time in
     let last = c.args.last in
+    let time_is = to_z-of_z w64 l c.ranges.unix_leap_time in
+    let read_is = to_z-of_z w64 c.unix_leap_time.result (search rules) in
     let ahead : l <ℤ last.unix_leap_time =
-    omega (
-      arith,
-      ints,
-      c.if-unix_leap_time.false,
-      c.unix_leap_time.ensures,
-      to_z-of_z w64 c.unix_leap_time.result
-          (search rules),
-      to_z-of_z w64 l c.ranges.unix_leap_time,
-    ) in
-    rw (to_z-of_z w64 l c.ranges.unix_leap_time)
-    (ahead_from list c.requires.rising l (length list - 1) last c.requires.last ahead)
+    omega (arith, ints, c.if-unix_leap_time.false, c.unix_leap_time.ensures, read_is, time_is) in
+    rw time_is (ahead_from list c.requires.rising l (length list - 1) last c.requires.last ahead)
 
 pub returns-then-unix_leap_time-clause-at : goal.returns-then-unix_leap_time-clause-at
 returns-then-unix_leap_time-clause-at c =
     let list = list_of c.args.view.now in
     let l = c.args.unix_leap_time in
     let last = c.args.last in
+    let time_is = to_z-of_z w64 l c.ranges.unix_leap_time in
+    let read_is = to_z-of_z w64 c.unix_leap_time.result (search rules) in
     let reached : last.unix_leap_time ≤ℤ l =
-    omega (
-      arith,
-      ints,
-      c.if-unix_leap_time.true,
-      c.unix_leap_time.ensures,
-      to_z-of_z w64 c.unix_leap_time.result
-          (search rules),
-      to_z-of_z w64 l c.ranges.unix_leap_time,
-    ) in
+    omega (arith, ints, c.if-unix_leap_time.true, c.unix_leap_time.ensures, read_is, time_is) in
     let all : AreReached list l (length list) =
     subst (λ (k : ℕ). AreReached list l k) (omega (arith, c.requires.at_least_one))
     (reached_through list c.requires.rising l (length list - 1) last c.requires.last reached) in

@@ -14,14 +14,8 @@ returns c =
     let u = c.args.unix_time in
     let found = c.after_table-segment.result in
     let segment = rw (to_z-of_z w64 u c.ranges.unix_time) at c.after_table-segment.ensures in
-    let over : c.args.high ≤ℤ found.last =
-    omega (
-      arith,
-      ints,
-      c.if-segment-high.false,
-      to_z-of_z w64 found.last (search rules),
-      to_z-of_z w64 c.args.high
-          c.ranges.high,
-    ) in
+    let high_is = to_z-of_z w64 c.args.high c.ranges.high in
+    let last_is = to_z-of_z w64 found.last (search rules) in
+    let over : c.args.high ≤ℤ found.last = omega (arith, ints, c.if-segment-high.false, last_is, high_is) in
     through found.local_time_type u c.args.high _ _
     (λ v from to. segment.holds v (omega (arith, ints, segment.within.0, from)) (omega (arith, ints, to, over)))

@@ -6,15 +6,9 @@ pub returns-then-high-first-clause-types : goal.returns-then-high-first-clause-t
 returns-then-high-first-clause-types c = λ v from to.
     let first = c.after_table-first.result in
     let segment = rw (to_z-of_z w64 c.args.low c.ranges.low) at c.after_table-first.ensures in
-    let over : c.args.high ≤ℤ first.last =
-    omega (
-      arith,
-      ints,
-      c.if-high-first.true,
-      to_z-of_z w64 first.last (search rules),
-      to_z-of_z w64 c.args.high
-          c.ranges.high,
-    ) in
+    let high_is = to_z-of_z w64 c.args.high c.ranges.high in
+    let last_is = to_z-of_z w64 first.last (search rules) in
+    let over : c.args.high ≤ℤ first.last = omega (arith, ints, c.if-high-first.true, last_is, high_is) in
     rw c.in-Some.is at segment.holds v (omega (arith, ints, segment.within.0, from)) (omega (arith, ints, to, over))
 
 pub returns-in-Some-type_through-clause-types : goal.returns-in-Some-type_through-clause-types
