@@ -1,5 +1,5 @@
 -- Positions: which instants lie at one, and the type of the clock there.
-use Rattle.tz_zone.proofs.Common.{◌≡◌, arith, ℕ, ints, refl, sym, inr, inl, length, ℤ, ◌∙◌, subst, ◌<◌, ap, List, ◌≤ℤ◌, Some, ◌<ℤ◌, ◌-◌, ◌≤◌, LocalTimeType, Zone, [], ◌+◌, Option, by_lt_z, slice_get, slice_get_within, ◌≢◌, None, same_Some, ◌∷◌, IsReachedAt, suc, IsClock, IsWideEffect, TransitionRule, zero, Transition, eqb, MatchOption, get_or, IsLeapTime, IsTimeReached, IsTypeOfLast, IsSoundTable, IsTypeAt, IsTypeWithout, IsTypeAfter, TzError, nil_from_length, none-some, slice_get-get_or, IsBefore, IsLast, IsTypeAfterTable, eqb-suc-zero, IsFaultAfter, IsLookupFault, IsPositionAt, OutOfRange, from_start, NoAvailableLocalTimeType}
+use Rattle.tz_zone.proofs.Common.{◌≡◌, arith, ℕ, ints, refl, sym, inr, inl, length, ℤ, ◌∙◌, subst, ◌<◌, ap, List, ◌≤ℤ◌, Some, ◌<ℤ◌, ◌-◌, ◌≤◌, LocalTimeType, Zone, [], ◌+◌, Option, by_lt_z, slice_get, slice_get_within, ◌≢◌, None, same_Some, ◌∷◌, IsReachedAt, suc, IsClock, IsWideEffect, TransitionRule, zero, Transition, eqb, MatchOption, get_or, IsLeapTime, IsTimeReached, IsTypeOfLast, IsSoundTable, IsTypeAt, IsTypeWithout, IsTypeAfter, TzError, nil_from_length, none-some, slice_get-get_or, IsBefore, IsLast, IsTypeAfterTable, eqb-suc-zero, IsFaultAfter, IsLookupFault, IsPositionAt, OutOfRange, from_start, NoAvailableLocalTimeType, SFits, w64, to_z, of_z, to_z-of_z}
 use Rattle.tz_zone.proofs.EmptyLists.{length_of_some}
 use Rattle.tz_zone.proofs.LeapTimes.{leap_time_mono, one_leap_time}
 use Rattle.tz_zone.proofs.RisingTimes.{rising, ahead_from, reached_later, reached_through}
@@ -10,6 +10,13 @@ use Rattle.tz_zone.proofs.InstantsWithLeapTime.{by_count, leap_unless_refused, d
 pub reached_at : (z : Zone) (u l : ℤ) (k : ℕ) → IsLeapTime z.leap_seconds u l → IsPositionAt z.transitions l k
     → IsReachedAt z u k
 reached_at z u l k leap at = record { time = l; time_is = leap; reached = at.0; ahead = at.1 }
+
+-- so it does at the position that a search finds in a list that has these transitions
+pub found_at : (z : Zone) (u l : ℤ) {list : List Transition} (k : ℕ) → SFits w64 u → SFits w64 l
+    → list ≡ z.transitions → IsLeapTime z.leap_seconds (to_z w64 (of_z w64 u)) l
+    → IsPositionAt list (to_z w64 (of_z w64 l)) k → IsReachedAt z u k
+found_at z u l k u_fits l_fits same leap at =
+    reached_at z u l k (rw (to_z-of_z w64 u u_fits) at leap) (rw (same, to_z-of_z w64 l l_fits) at at)
 
 module _ (z : Zone) (sound : IsSoundTable z) where
   -- the last transition

@@ -1,6 +1,6 @@
 -- The leap time lies at the position.
 use Rattle.tz_zone.proofs.Common.{arith, to_z-of_z, rules, w64, refl, length, ◌<◌, zone_of_data, ◌-◌, slice_get_read}
-use Rattle.tz_zone.proofs.Positions.{reached_at}
+use Rattle.tz_zone.proofs.Positions.{found_at}
 use Rattle.tz_zone.proofs.RisingTimes.{rising}
 use Rattle.tz_zone.proofs.SegmentTypes.{match_none}
 use Rattle.tz_zone.proofs.clock.binary_search.position_in.Goals as goal
@@ -23,7 +23,9 @@ position_of-requires-clause-last c =
 
 pub returns : goal.returns
 returns c =
-    let l = c.in_ok-unix_leap_time.unix_leap_time in
-    let found = rw (c.new.ensures.list, to_z-of_z w64 l (search rules)) at c.position_of.ensures in
-    let leap = rw (to_z-of_z w64 c.args.unix_time c.ranges.unix_time) at c.in_ok-unix_leap_time.ensures in
-    (found.within, reached_at (zone_of_data c.args.zone.now) _ l _ leap found.at)
+    let same = c.new.ensures.list in
+    let found = c.position_of.ensures in (
+      rw same at found.within,
+      found_at (zone_of_data c.args.zone.now) c.args.unix_time c.in_ok-unix_leap_time.unix_leap_time
+          c.position_of.result c.ranges.unix_time (search rules) same c.in_ok-unix_leap_time.ensures found.at,
+    )

@@ -1,6 +1,6 @@
 -- After the table the types are those of the rule, or of the first type where there are no transitions.
-use Rattle.tz_zone.proofs.Common.{◌≡◌, arith, to_z-of_z, ℕ, rules, w64, refl, sym, length, ℤ, subst, ◌<◌, ap, ◌≤ℤ◌, Some, zone_of_data, ◌≤◌, LocalTimeType, ◌+◌, IsReachedAt, IsClock, eqb, MatchOption, nil_from_length, ◌^◌, IsTypeAfterTable, IsPositionOf, list_of, looks_of, one_look_more-one_more}
-use Rattle.tz_zone.proofs.Positions.{reached_at, clock_after_table, position_through}
+use Rattle.tz_zone.proofs.Common.{◌≡◌, arith, to_z-of_z, ℕ, rules, w64, refl, sym, ◌∙◌, length, ℤ, subst, ◌<◌, ap, ◌≤ℤ◌, Some, zone_of_data, ◌≤◌, LocalTimeType, ◌+◌, IsReachedAt, IsClock, eqb, MatchOption, nil_from_length, ◌^◌, IsTypeAfterTable, IsPositionOf, list_of, looks_of, one_look_more-one_more}
+use Rattle.tz_zone.proofs.Positions.{found_at, clock_after_table, position_through}
 use Rattle.tz_zone.proofs.WindowTypes.{more_weaker, types_weaker}
 use Rattle.tz_zone.proofs.clock.window_types.window_types.Goals.{
   then-count-gt0+in-Some+else-position-count+in-Some-leap_time,
@@ -19,13 +19,13 @@ pub returns-then-position-count-clause-position : goal.returns-then-position-cou
 returns-then-position-count-clause-position c =
     let z = zone_of_data c.args.zone in
     let low = c.args.low in
-    let l = c.in-Some.low_leap_time in
-    let same = c.look-last.ensures.same in
-    let found = rw (same, c.requires.view, to_z-of_z w64 l (search rules)) at c.position_of-position.ensures in
-    let leap = rw (to_z-of_z w64 low c.ranges.low) at c.in-Some.ensures in
-    let at = reached_at z low l c.position_of-position.result leap found.at in
+    let list_is = c.look-last.ensures.same ∙ c.requires.view in
+    let found = c.position_of-position.ensures in
+    let at = found_at z low c.in-Some.low_leap_time c.position_of-position.result c.ranges.low (search rules) list_is
+    c.in-Some.ensures found.at in
     more_weaker c.types_at_position.result _ (IsPositionOf z low)
-    (λ position is. subst (IsPositionOf z low) (sym is.0) (found.within, λ some. at)) c.types_at_position.ensures.more
+    (λ position is. subst (IsPositionOf z low) (sym is.0) (rw list_is at found.within, λ some. at))
+    c.types_at_position.ensures.more
 
 pub returns-then-position-count-clause-more : goal.returns-then-position-count-clause-more
 returns-then-position-count-clause-more c =
@@ -43,13 +43,11 @@ returns-then-position-count-clause-more c =
 
 pub returns-in_default-leap_time-clause-position : goal.returns-in_default-leap_time-clause-position
 returns-in_default-leap_time-clause-position c =
-    let l = c.in-Some.low_leap_time in
-    let same = c.look-last.ensures.same in
-    let found = rw (same, c.requires.view, to_z-of_z w64 l (search rules)) at c.position_of-position.ensures in
-    let leap = rw (to_z-of_z w64 c.args.low c.ranges.low) at c.in-Some.ensures in (
-      found.within,
-      λ some. reached_at (zone_of_data c.args.zone) c.args.low l c.position_of-position.result leap
-          found.at,
+    let list_is = c.look-last.ensures.same ∙ c.requires.view in
+    let found = c.position_of-position.ensures in (
+      rw list_is at found.within,
+      λ some. found_at (zone_of_data c.args.zone) c.args.low c.in-Some.low_leap_time c.position_of-position.result
+          c.ranges.low (search rules) list_is c.in-Some.ensures found.at,
     )
 
 pub returns-clause-types : goal.returns-clause-types
@@ -64,14 +62,13 @@ returns-clause-types c =
     let count : c.len-count.result ≡ all = rw c.requires.view at c.len-count.ensures in
     let reached : (v : ℤ) → low ≤ℤ v → v ≤ℤ high → 0 < all → IsReachedAt z v all = elim c.if-count-gt0.branch [
       | then-count-gt0+in-Some+else-position-count+in-Some-leap_time w ↦ λ v from to some.
-          let l = w.in-Some.low_leap_time in
-          let same = w.look-last.ensures.same in
-          let found = rw (same, c.requires.view, to_z-of_z w64 l (search rules)) at w.position_of-position.ensures in
-          let leap = rw low_is at w.in-Some.ensures in
-          let at = reached_at z low l w.position_of-position.result leap found.at in
+          let list_is = w.look-last.ensures.same ∙ c.requires.view in
+          let found = w.position_of-position.ensures in
+          let at = found_at z low w.in-Some.low_leap_time w.position_of-position.result c.ranges.low (search rules)
+          list_is w.in-Some.ensures found.at in
           let high_leap = rw high_is at w.in-Some-leap_time.ensures in
           let position_is : w.position_of-position.result ≡ length z.transitions =
-          omega (arith, found.within, w.if-position-count.false, count) in
+          omega (arith, rw list_is at found.within, w.if-position-count.false, count) in
           position_through z zone.sound all low high _ (subst (λ (k : ℕ). IsReachedAt z low k) position_is at) high_leap
           refl
           v from to
@@ -89,13 +86,12 @@ returns-clause-position c =
     let count : c.len-count.result ≡ length z.transitions = rw c.requires.view at c.len-count.ensures in
     let at : IsPositionOf z low (Some c.len-count.result) = elim c.if-count-gt0.branch [
       | then-count-gt0+in-Some+else-position-count+in-Some-leap_time w ↦
-          let l = w.in-Some.low_leap_time in
-          let same = w.look-last.ensures.same in
-          let found = rw (same, c.requires.view, to_z-of_z w64 l (search rules)) at w.position_of-position.ensures in
-          let leap = rw (to_z-of_z w64 low c.ranges.low) at w.in-Some.ensures in
-          let at = reached_at z low l w.position_of-position.result leap found.at in
+          let list_is = w.look-last.ensures.same ∙ c.requires.view in
+          let found = w.position_of-position.ensures in
+          let at = found_at z low w.in-Some.low_leap_time w.position_of-position.result c.ranges.low (search rules)
+          list_is w.in-Some.ensures found.at in
           let position_is : w.position_of-position.result ≡ c.len-count.result =
-          omega (arith, found.within, w.if-position-count.false, count) in
+          omega (arith, rw list_is at found.within, w.if-position-count.false, count) in
           (omega (arith, count), λ some. subst (λ (k : ℕ). IsReachedAt z low k) position_is at)
       | else-count-gt0 w ↦
           let none = nil_from_length z.transitions (omega (arith, w.if-count-gt0.false, count)) in
