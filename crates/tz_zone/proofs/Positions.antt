@@ -148,14 +148,14 @@ module _ (z : Zone) (sound : IsSoundTable z) where
         ≡ Some next) (at_later : slice_get z.transitions (k + 1) ≡ Some later)
         (reached : next.unix_leap_time ≤ℤ h) (ahead : h <ℤ later.unix_leap_time)
         (wide : IsWideEffect z.leap_seconds next.unix_leap_time jump) where
-      pub jump_above : low <ℤ jump
+      jump_above : low <ℤ jump
       jump_above = effect_ahead z.leap_seconds sound.leap_seconds_are low next.unix_leap_time jump
           at.time_is.not_refused (not_reached low k k next at (omega arith) at_next) wide
 
-      pub jump_up_to : jump ≤ℤ high
+      jump_up_to : jump ≤ℤ high
       jump_up_to = wide.least high (h, leap, reached)
 
-      pub type_before_jump : IsTypeOfLast z k before → (v : ℤ) → low ≤ℤ v → v <ℤ jump → IsClock z v before
+      type_before_jump : IsTypeOfLast z k before → (v : ℤ) → low ≤ℤ v → v <ℤ jump → IsClock z v before
       type_before_jump type v from until =
           let here = leap_between v from (omega (arith, ints, until, jump_up_to)) in
           clock_at_position k v before (slice_get_within z.transitions k next at_next)
@@ -164,7 +164,7 @@ module _ (z : Zone) (sound : IsSoundTable z) where
           (by_lt_z here.0 next.unix_leap_time (λ e. e)
           (λ e. absurd (omega (arith, ints, wide.least v (here.0, here.1, e), until)))))) type
 
-      pub type_from_jump : IsTypeAt z next.type_index after → (v : ℤ) → jump ≤ℤ v → v ≤ℤ high → IsClock z v after
+      type_from_jump : IsTypeAt z next.type_index after → (v : ℤ) → jump ≤ℤ v → v ≤ℤ high → IsClock z v after
       type_from_jump type v from to =
           let here = leap_between v (omega (arith, ints, from, jump_above)) to in
           let there = reached_from z.leap_seconds sound.leap_seconds_are next.unix_leap_time jump v wide
@@ -180,6 +180,12 @@ module _ (z : Zone) (sound : IsSoundTable z) where
                 (omega arith) at_next),
             type,
           ))
+
+      -- so it has these two types from the first instant up to the last one
+      pub two_types : IsTypeOfLast z k before → IsTypeAt z next.type_index after → (low <ℤ jump) × (jump ≤ℤ high)
+          × ((v : ℤ) → low ≤ℤ v → v <ℤ jump → IsClock z v before)
+          × ((v : ℤ) → jump ≤ℤ v → v ≤ℤ high → IsClock z v after)
+      two_types type type' = (jump_above, jump_up_to, type_before_jump type, type_from_jump type')
 
 -- the type after the table is that of the clock where all transitions are reached, and of one that has none
 pub clock_after_table : (z : Zone) → IsSoundTable z → (count : ℕ) → count ≡ length z.transitions

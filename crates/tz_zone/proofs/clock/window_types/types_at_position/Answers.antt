@@ -1,6 +1,6 @@
 -- The next transition ends the window's first type, and the one after it the second.
 use Rattle.tz_zone.proofs.Common.{◌≡◌, arith, to_z-of_z, rules, ints, w64, ◌≤ℤ◌, Some, ◌<ℤ◌, zone_of_data, ◌+◌, slice_get, IsWideEffect, OnTrue_at}
-use Rattle.tz_zone.proofs.Positions.{reached_at, one_type, type_while_before, jump_above, jump_up_to, type_before_jump, type_from_jump}
+use Rattle.tz_zone.proofs.Positions.{reached_at, one_type, type_while_before, two_types}
 use Rattle.tz_zone.proofs.LeapTimes.{instant_bounds}
 use Rattle.tz_zone.proofs.clock.window_types.types_at_position.Goals as goal
 
@@ -88,15 +88,6 @@ returns-clause-types c =
     let jump = c.effect_of_reached-unix_time.result in
     let wide : IsWideEffect z.leap_seconds next.unix_leap_time jump =
     rw (next_is, next_time.ensures) at c.effect_of_reached-unix_time.ensures in
-    rw (to_z-of_z w64 jump (search rules)) (
-      jump_above z zone.sound position low high h at leap next later jump before after at_next at_later reached ahead
-          wide,
-      jump_up_to z zone.sound position low high h at leap next later jump before after at_next at_later reached ahead
-          wide,
-      type_before_jump z zone.sound position low high h at leap next later jump before after at_next at_later reached
-          ahead
-          wide c.type_before-before.ensures.value,
-      type_from_jump z zone.sound position low high h at leap next later jump before after at_next at_later reached
-          ahead
-          wide c.type_of-after.ensures,
-    )
+    rw (to_z-of_z w64 jump (search rules))
+    (two_types z zone.sound position low high h at leap next later jump before after at_next at_later reached ahead
+    wide c.type_before-before.ensures.value c.type_of-after.ensures)
