@@ -1,5 +1,5 @@
 -- Powers of two: the order of their exponents, and the half of one.
-use Rattle.tz_zone.proofs.Common.{◌≡◌, arith, ℕ, refl, inr, inl, ◌∙◌, ◌<◌, ap, ◌≤◌, ◌+◌, ◌≢◌, suc, zero, cases_lt, ◌^◌, pow_mono, ◌/◌}
+use Rattle.tz_zone.proofs.Common.{◌≡◌, arith, ℕ, refl, sym, inr, inl, ◌∙◌, ◌<◌, ap, ◌≤◌, ◌+◌, ◌≢◌, suc, zero, cases_lt, ◌^◌, pow_mono, ◌/◌}
 use Rattle.std.proofs.Math.Nat.{pow-suc}
 
 -- a power of two that is below another one has the smaller exponent
@@ -24,16 +24,16 @@ exponent_up_to f m order = elim (cases_lt m f) [
 ]
 
 -- half a power of two that is not another one up to it is one, and not less than that
-pub half_power : (count m f : ℕ) → count ≡ 2 ^ m → count ≢ 2 ^ f → f ≤ m → (k : ℕ) × (m ≡ suc k) × (count / 2 ≡ 2 ^ k)
-    × (count ≡ 2 ^ k + 2 ^ k) × (f ≤ k)
-half_power count zero f is differ order = let none : 0 ≡ f = omega (arith, order) in
-    absurd (differ (is ∙ ap (λ (n : ℕ). 2 ^ n) none))
-half_power count (suc k) f is differ order =
+pub half_power : (count least m f : ℕ) → count ≡ 2 ^ m → least ≡ 2 ^ f → count ≢ least → f ≤ m
+    → (k : ℕ) × (m ≡ suc k) × (count / 2 ≡ 2 ^ k) × (count ≡ 2 ^ k + 2 ^ k) × (f ≤ k)
+half_power count least zero f is least_is differ order = let none : 0 ≡ f = omega (arith, order) in
+    absurd (differ (is ∙ ap (λ (n : ℕ). 2 ^ n) none ∙ sym least_is))
+half_power count least (suc k) f is least_is differ order =
     (k, refl, omega (arith, is, pow-suc 2 k), omega (arith, is, pow-suc 2 k), within)
   where
     within : f ≤ k
     within = elim (cases_lt k f) [
       | inl less ↦ let same : suc k ≡ f = omega (arith, less, order) in
-          absurd (differ (is ∙ ap (λ (n : ℕ). 2 ^ n) same))
+          absurd (differ (is ∙ ap (λ (n : ℕ). 2 ^ n) same ∙ sym least_is))
       | inr more ↦ more
     ]

@@ -1,5 +1,5 @@
 -- A power of two that is not another one up to it is twice a power of two, which is not less than that one.
-use Rattle.tz_zone.proofs.Common.{arith, to_z-of_z, ℕ, w64, sym, ◌∙◌, subst, IsAmongPositions, pow_mono, list_of}
+use Rattle.tz_zone.proofs.Common.{arith, to_z-of_z, ℕ, w64, ◌∙◌, subst, IsAmongPositions, pow_mono, list_of}
 use Rattle.tz_zone.proofs.PowerSteps.{half_power}
 use Rattle.tz_zone.proofs.clock.binary_search.halved.Goals as goal
 
@@ -7,8 +7,7 @@ pub half-position-requires-clause-some : goal.half-position-requires-clause-some
 half-position-requires-clause-some c =
     let (e, f, count_is, least_is, order) = c.requires.powers in
     let (k, left_is, least_within, looks) = c.loop-left.invariant.steps e f count_is least_is order in
-    let half = half_power c.loop-left.left k f left_is (λ same. c.loop-left-test.true (same ∙ sym least_is))
-    least_within in
+    let half = half_power c.loop-left.left c.args.least k f left_is least_is c.loop-left-test.true least_within in
     omega (arith, half.2, pow_mono {i = 0} {j = half.0} (omega arith))
 
 pub half-position-requires-clause-among : goal.half-position-requires-clause-among
@@ -16,8 +15,7 @@ half-position-requires-clause-among c =
     let time_is = to_z-of_z w64 c.args.unix_leap_time c.ranges.unix_leap_time in
     let (e, f, count_is, least_is, order) = c.requires.powers in
     let (k, left_is, least_within, looks) = c.loop-left.invariant.steps e f count_is least_is order in
-    let half = half_power c.loop-left.left k f left_is (λ same. c.loop-left-test.true (same ∙ sym least_is))
-    least_within in
+    let half = half_power c.loop-left.left c.args.least k f left_is least_is c.loop-left-test.true least_within in
     rw time_is (subst (λ (n : ℕ). IsAmongPositions (list_of c.loop-left.view) c.args.unix_leap_time
     c.loop-left.position n) (omega (arith, half.2, half.3)) (rw time_is at c.loop-left.invariant.among))
 
@@ -31,8 +29,7 @@ loop-left-preserved c =
       among = rw time_is at moved.among;
       steps = λ e f count_is least_is order.
           let (k, left_is, least_within, looks) = inv.steps e f count_is least_is order in
-          let half = half_power c.loop-left.left k f left_is (λ same. c.loop-left-test.true (same ∙ sym least_is))
-          least_within in
+          let half = half_power c.loop-left.left c.args.least k f left_is least_is c.loop-left-test.true least_within in
           (half.0, half.2, half.4, omega (arith, looks, moved.at_most, half.1));
       kept = omega (arith, inv.kept, moved.kept);
     })
