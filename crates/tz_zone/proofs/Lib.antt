@@ -11,6 +11,7 @@ pub mod OffsetBounds
 pub mod RisingTimes
 pub mod Chunks
 pub mod PowerSteps
+pub mod AfterLooks
 pub mod LeapAnswers
 pub mod TableChecks
 pub mod RuleChecks

@@ -1,6 +1,6 @@
 -- A view of transitions, and its count of looks: one more for each look. A count of 64 bits stays
 -- at its greatest.
-use Rattle.std.specs.Prelude.{◌≡◌, ℕ, ◌+◌, ◌≤◌, List, length, take, drop, Bool, true, false, nat_lt, if◌then◌else◌}
+use Rattle.std.specs.Prelude.{◌≡◌, ℕ, ◌+◌, ◌^◌, ◌<◌, ◌≤◌, List, length, take, drop, Bool, true, false, nat_lt, if◌then◌else◌}
 use Rattle.std.proofs.Common.{arith}
 use Rattle.tz_zone.specs.Table.{Transition}
 use Rattle.tz_zone.specs.declared.table.transition_view.TransitionView.{TransitionView}
@@ -30,6 +30,20 @@ pub one_look_more-one_more : (n : ℕ) → one_look_more n ≤ n + 1
 one_look_more-one_more n =
     elim (nat_lt n 18446744073709551615) as (λ t. (if t then n + 1 else n) ≤ n + 1)
     [ true ↦ omega arith | false ↦ omega arith ]
+
+-- a view after at most so many looks: its list is the same, and its count up to so much greater
+pub record IsAfterLooks (before after : TransitionView) (most : ℕ) : Type 0 where
+  pub same : list_of after ≡ list_of before
+  pub kept : looks_of before ≤ looks_of after
+  pub at_most : looks_of after ≤ looks_of before + most
+
+-- a view after a binary search and so many looks more, at most: the search takes b looks at most
+-- among fewer than 2^b transitions
+pub record IsAfterSearch (before after : TransitionView) (more : ℕ) : Type 0 where
+  pub same : list_of after ≡ list_of before
+  pub kept : looks_of before ≤ looks_of after
+  pub at_most : (b : ℕ) → length (list_of before) < 2 ^ b
+      → looks_of after ≤ looks_of before + (b + more)
 
 -- so many transitions in a row, from an index on
 abbrev pub IsChunkAt : List Transition → ℕ → ℕ → List Transition → Type 0
