@@ -8,72 +8,54 @@ use Rattle.tz_zone.proofs.PositionRuns.{some_transitions}
 use Rattle.tz_zone.proofs.InstantsWithLeapTime.{defined_between, leap_time_low, leap_unless_refused}
 use Rattle.tz.proofs.ReadingWindows.{as_many_as_passed}
 
--- a leap time that is ahead at one instant and reached at another takes effect after the first, and not after the
--- second
-module _ (leaps : List LeapSecond) (are : AreLeapSeconds leaps) (v first l : ℤ) (fits : IsInstant first)
-    (leap : IsLeapTime leaps first l) (ahead : l <ℤ v) where
-  effect_within : (n : ℕ) (at : ℤ) → at ≡ first +ℤ pos n → at ≤ℤ pos 9223372036854775807
-      → IsTimeReached leaps v at → (u : ℤ) × IsEffect leaps v u × (first ≤ℤ u) × (u ≤ℤ at)
-  effect_within zero at is high reached =
-      absurd (omega (
-        arith,
-        ints,
-        ahead,
-        reached.2,
-        leap_time_mono leaps are at first reached.0 l (omega (arith, ints, is)) reached.1
-            leap,
-      ))
-  effect_within (suc n) at is high reached =
-      let earlier : first +ℤ pos n ≡ at -ℤ pos 1 = omega (arith, ints, is) in
-      let here = leap_unless_refused leaps are (first +ℤ pos n)
-      (defined_between leaps are first at (first +ℤ pos n) leap.not_refused reached.1.not_refused
-      (omega (arith, ints)) (omega (arith, ints, is))) in
-      by_lt_z here.0 v
-      (λ before. (
-        at,
-        record {
-          not_least = λ e. absurd (omega (arith, ints, e, ahead, leap_time_low leaps are first l fits leap));
-          instant = IsInstant-from_bounds at (omega (arith, ints, is, (instant_bounds first fits).0)) high;
-          reached = reached;
-          least = λ w there. by_lt_z w at
-              (λ h. absurd (omega (
-                arith,
-                ints,
-                before,
-                there.2,
-                leap_time_mono leaps are w (first +ℤ pos n) there.0 here.0
-                    (omega (arith, ints, h, earlier)) there.1 here.1,
-              )))
-              (λ h. h);
-        },
-        omega (arith, ints, is),
-        omega (arith, ints),
-      ))
-      (λ from. let found = effect_within n (first +ℤ pos n) refl (omega (arith, ints, earlier, high))
-      (here.0, here.1, from) in
-      (found.0, found.1, found.2, omega (arith, ints, found.3, earlier)))
+module _ (leaps : List LeapSecond) (are : AreLeapSeconds leaps) (v : ℤ) where
+  -- a leap time that is ahead at one instant is reached after that, if at all
+  reached_after : (u l at : ℤ) → IsLeapTime leaps u l → l <ℤ v → IsTimeReached leaps v at → u <ℤ at
+  reached_after u l at leap ahead reached = by_lt_z u at (λ h. h)
+      (λ h. absurd (omega
+      (arith, ints, ahead, reached.2, leap_time_mono leaps are at u reached.0 l h reached.1 leap)))
 
-  distance : (a b : ℤ) → a ≤ℤ b → (n : ℕ) × (b ≡ a +ℤ pos n)
-  distance a b order = by_sign (b -ℤ a) refl
-    where
-      by_sign : (d : ℤ) → b -ℤ a ≡ d → (n : ℕ) × (b ≡ a +ℤ pos n)
-      by_sign (pos n) e = (n, omega (arith, ints, e))
-      by_sign (negsuc n) e = absurd (omega (arith, ints, e, order))
+  -- and takes effect after it, and not after an instant at which it is reached
+  module _ (first l : ℤ) (fits : IsInstant first) (leap : IsLeapTime leaps first l) (ahead : l <ℤ v) where
+    effect_within : (n : ℕ) (at : ℤ) → at ≡ first +ℤ pos n → at ≤ℤ pos 9223372036854775807
+        → IsTimeReached leaps v at → (u : ℤ) × IsEffect leaps v u × (first ≤ℤ u) × (u ≤ℤ at)
+    effect_within zero at is high reached =
+        absurd (omega (arith, ints, is, reached_after first l at leap ahead reached))
+    effect_within (suc n) at is high reached =
+        let earlier : first +ℤ pos n ≡ at -ℤ pos 1 = omega (arith, ints, is) in
+        let here = leap_unless_refused leaps are (first +ℤ pos n)
+        (defined_between leaps are first at (first +ℤ pos n) leap.not_refused reached.1.not_refused
+        (omega (arith, ints)) (omega (arith, ints, is))) in
+        by_lt_z here.0 v
+        (λ before. (
+          at,
+          record {
+            not_least = λ e. absurd (omega (arith, ints, e, ahead, leap_time_low leaps are first l fits leap));
+            instant = IsInstant-from_bounds at (omega (arith, ints, is, (instant_bounds first fits).0)) high;
+            reached = reached;
+            least = λ w there.
+                omega (arith, ints, earlier, reached_after (first +ℤ pos n) here.0 w here.1 before there);
+          },
+          omega (arith, ints, is),
+          omega (arith, ints),
+        ))
+        (λ from. let found = effect_within n (first +ℤ pos n) refl (omega (arith, ints, earlier, high))
+        (here.0, here.1, from) in
+        (found.0, found.1, found.2, omega (arith, ints, found.3, earlier)))
 
-  pub takes_effect : (at : ℤ) → at ≤ℤ pos 9223372036854775807 → IsTimeReached leaps v at → (u : ℤ) × IsEffect leaps v u
-      × (first ≤ℤ u) × (u ≤ℤ at)
-  takes_effect at high reached =
-      let order : first ≤ℤ at = by_lt_z at first
-      (λ h. absurd (omega (
-        arith,
-        ints,
-        ahead,
-        reached.2,
-        leap_time_mono leaps are at first reached.0 l (omega (arith, ints, h))
-            reached.1 leap,
-      ))) (λ h. h) in
-      let (n, is) = distance first at order in
-      effect_within n at is high reached
+    distance : (a b : ℤ) → a ≤ℤ b → (n : ℕ) × (b ≡ a +ℤ pos n)
+    distance a b order = by_sign (b -ℤ a) refl
+      where
+        by_sign : (d : ℤ) → b -ℤ a ≡ d → (n : ℕ) × (b ≡ a +ℤ pos n)
+        by_sign (pos n) e = (n, omega (arith, ints, e))
+        by_sign (negsuc n) e = absurd (omega (arith, ints, e, order))
+
+    pub takes_effect : (at : ℤ) → at ≤ℤ pos 9223372036854775807 → IsTimeReached leaps v at
+        → (u : ℤ) × IsEffect leaps v u × (first ≤ℤ u) × (u ≤ℤ at)
+    takes_effect at high reached =
+        let after = reached_after first l at leap ahead reached in
+        let (n, is) = distance first at (omega (arith, ints, after)) in
+        effect_within n at is high reached
 
 -- the looks of a walk, by the position at which it began and that to which it has come
 pub record AreLooks (z : Zone) (low high : ℤ) (start before looks position : ℕ) : Type 0 where
