@@ -3,7 +3,7 @@
 ghost use Rattle.std.specs.Prelude.{◌≡◌, ◌⊎◌, ◌+◌, ◌^◌, ◌<◌, ◌≤◌, List, length, ⊤, IfOk, OnOk};
 ghost use Rattle.tz_base.specs.Fields.{IsValid, reading};
 ghost use Rattle.tz_zone.specs.Clock.{IsClock};
-ghost use Rattle.tz_zone.specs.Looks.{list_of, looks_of, one_look_more};
+ghost use Rattle.tz_zone.specs.Looks.{list_of};
 ghost use Rattle.tz_zone.specs.ZoneOfData.{zone_of_data};
 ghost use Rattle.tz.specs.Found.{IsFound};
 ghost use Rattle.tz.specs.Lists.{found_of};
@@ -56,8 +56,8 @@ pub(super) fn find_in<L: DateTimeList>(
         × IsFound (IsClock (zone_of_data zone.now)) fields.now found × (length found ≤ 2 ^ 33)) }
     ensures untouched { IsValid fields.now ⊎ (list.new ≡ list.old) }
     ensures outcome { IsOutcome (λ e. e) L.takes_memory (zone_of_data zone.now) fields.now result }
-    ensures looks { AreLooksOf (zone_of_data zone.now) (reading fields.now) (looks_of view.old)
-        (one_look_more (looks_of view.old)) (looks_of view.new) result }
+    ensures looks { AreLooksOf (zone_of_data zone.now) (reading fields.now)
+        view.old view.new result }
 {
     fields.check()?;
     search(list, fields, view, zone)
@@ -396,8 +396,8 @@ impl DateTime {
             IsValid fields.now ⊎ (refused.buf.now ≡ buf.old)) }
         ensures outcome { IsOutcome (λ refused. refused.fault) ⊥ (zone_of_data zone.now)
             fields.now result }
-        ensures looks { AreLooksOf (zone_of_data zone.now) (reading fields.now) (looks_of view.old)
-            (one_look_more (looks_of view.old)) (looks_of view.new) result }
+        ensures looks { AreLooksOf (zone_of_data zone.now) (reading fields.now)
+            view.old view.new result }
     {
         let mut writer = SlotWriter::new(buf, 0);
         match find_in(&mut writer, fields, view, zone) {

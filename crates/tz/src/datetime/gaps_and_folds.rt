@@ -2,7 +2,7 @@
 //! fold, and the forward jumps that pass over it, each a gap. It looks at the changes of the
 //! reading's window, the instants among which it finds all that the reading means.
 
-ghost use Rattle.std.specs.Prelude.{◌≡◌, ◌+◌, ◌*◌, ◌^◌, ◌<◌, ◌≤◌, ℕ, ℤ, pos, List, ◌-ℤ◌, ◌≤ℤ◌};
+ghost use Rattle.std.specs.Prelude.{◌≡◌, ◌+◌, ◌*◌, ◌^◌, ◌<◌, ◌≤◌, ℕ, pos, List, ◌-ℤ◌, ◌≤ℤ◌};
 ghost use Rattle.std.specs.Prelude.{OnOk, IfErr, MatchBool, length};
 ghost use Rattle.tz_base.specs.Fields.{IsValid, reading as reading_of};
 ghost use Rattle.tz_zone.specs.Clock.{IsClock};
@@ -296,8 +296,8 @@ pub(super) fn search<L: DateTimeList>(
     ensures made { OnOk result (EachCanBeMade (IsClock (zone_of_data zone.now)) fields.now) }
     ensures err { IfErr result
         (IsSearchFault L.takes_memory (IsClock (zone_of_data zone.now)) fields.now) }
-    ensures looks { AreLooksOf (zone_of_data zone.now) (reading_of fields.now) (looks_of view.old)
-        (one_look_more (looks_of view.old)) (looks_of view.new) result }
+    ensures looks { AreLooksOf (zone_of_data zone.now) (reading_of fields.now)
+        view.old view.new result }
 {
     let reading = fields.reading();
     let (low, high) = window_of(zone, reading);
