@@ -1,9 +1,12 @@
 -- A walk along a clock looks at each transition that takes effect in the window, and at one more at most.
-use Rattle.tz.proofs.Common.{arith, refl, ◌≡◌, ints, inr, inl, [], ap, ℕ, ◌<◌, List, length, ◌+◌, pos, ℤ, Some, Zone, ◌≤◌, suc, ◌-ℤ◌, zero, ◌+ℤ◌, ◌<ℤ◌, ◌^◌, ◌≤ℤ◌, None, Option, negsuc, ◌⊎◌, get_or, ◌≢◌, Err, Ok, by_lt_z, IsInstant-from_bounds, AreLeapSeconds, AtMostTakeEffectIn, IfSome, IsStage, OnOk, TakesEffectIn, first_looks, instant_bounds, slice_get, slice_get-get_or, IsSoundTable, LeapSecond, leap_time_mono}
+use Rattle.tz.proofs.Common.{arith, ◌-◌, refl, ◌≡◌, ints, inr, inl, [], ℕ, ◌<◌, List, length, ◌+◌, pos, ℤ, Some, Zone, ◌≤◌, suc, ◌-ℤ◌, zero, ◌+ℤ◌, ◌<ℤ◌, ◌^◌, ◌≤ℤ◌, None, Option, negsuc, ◌⊎◌, get_or, ◌≢◌, Err, Ok, by_lt_z, IsInstant-from_bounds, AreLeapSeconds, AtMostTakeEffectIn, IfSome, IsStage, OnOk, TakesEffectIn, first_looks, instant_bounds, slice_get, slice_get-get_or, IsSoundTable, LeapSecond, leap_time_mono}
 use Rattle.std.proofs.Common.{Result}
 use Rattle.tz_zone.specs.LeapTime.{IsInstant, IsLeapTime, IsTimeReached, IsEffect}
 use Rattle.tz_zone.specs.ClockSegments.{from_start}
 use Rattle.tz_zone.specs.declared.clock.window_types.Stage.{Stage}
+use Rattle.tz_zone.specs.Looks.{list_of, looks_of, IsAfterLooks, IsAfterSearch}
+use Rattle.tz_zone.specs.declared.table.transition_view.TransitionView.{TransitionView}
+use Rattle.tz_zone.proofs.AfterLooks.{looks_and_looks, looks_up_to}
 use Rattle.tz_zone.proofs.PositionRuns.{some_transitions}
 use Rattle.tz_zone.proofs.InstantsWithLeapTime.{defined_between, leap_time_low, leap_unless_refused}
 use Rattle.tz.proofs.ReadingWindows.{as_many_as_passed}
@@ -58,21 +61,11 @@ module _ (leaps : List LeapSecond) (are : AreLeapSeconds leaps) (v : ℤ) where
         effect_within n at is high reached
 
 -- the looks of a walk, by the position at which it began and that to which it has come
-pub record AreLooks (z : Zone) (low high : ℤ) (start before looks position : ℕ) : Type 0 where
-  pub kept : before ≤ looks
+pub record AreLooks (z : Zone) (low high : ℤ) (start : ℕ) (before after : TransitionView) (position : ℕ) : Type 0 where
+  pub taken : IsAfterLooks before after (position - start)
   pub onward : start ≤ position
-  pub passed : looks + start ≤ before + position
-  pub few : (w : ℕ) → AtMostTakeEffectIn z low high w → looks ≤ before + (w + 1)
-  pub none : z.transitions ≡ [] → looks ≡ before
-
-pub looks_at_first : (z : Zone) (low high : ℤ) (start before : ℕ) → AreLooks z low high start before before start
-looks_at_first z low high start before = record {
-  kept = omega arith;
-  onward = omega arith;
-  passed = omega arith;
-  few = λ w most. omega arith;
-  none = λ empty. refl;
-}
+  pub within : position ≤ length z.transitions
+  pub few : (w : ℕ) → AtMostTakeEffectIn z low high w → position ≤ start + (w + 1)
 
 -- all transitions that a walk has passed take effect in the window, and the next one may take effect after it
 module _ (z : Zone) (sound : IsSoundTable z) (low high : ℤ) (reach : high ≤ℤ pos 80000000000000000) (first : ℤ)
@@ -91,38 +84,31 @@ module _ (z : Zone) (sound : IsSoundTable z) (low high : ℤ) (reach : high ≤�
       (there.0, there.1, there.2 i change below at_i) in
       (change, found.0, at_i, found.1, omega (arith, ints, from, found.2), omega (arith, ints, found.3, up_to))
 
-  pub looks_on : {A : Type 0} (before looks next position : ℕ)
-      → AreLooks z low high start.position before looks stage.position → looks ≤ next
-      → next + stage.position ≤ looks + position
+  pub looks_on : {A : Type 0} {before after next : TransitionView} (position : ℕ)
+      → AreLooks z low high start.position before after stage.position
+      → IsAfterLooks after next (position - stage.position)
       → ((position ≡ stage.position) × A) ⊎ (position ≡ stage.position + 1) → position ≤ length z.transitions
       → AreLooks z low high start.position before next position
-  looks_on before looks next position are kept passed onward within =
+  looks_on position are taken onward within =
       let more : (stage.position ≤ position) × (position ≤ stage.position + 1) = elim onward [
         | inl same ↦ (omega (arith, same.0), omega (arith, same.0))
         | inr one ↦ (omega (arith, one), omega (arith, one))
       ] in
+      let passed = as_many_as_passed z low high in
       record {
-        kept = omega (arith, are.kept, kept);
+        taken = looks_up_to (looks_and_looks are.taken taken) (omega (arith, are.onward, more.0));
         onward = omega (arith, are.onward, more.0);
-        passed = omega (arith, are.passed, passed);
-        few = λ w most. omega (
-          arith,
-          are.passed,
-          passed,
-          more.1,
-          as_many_as_passed z low high w most start.position stage.position
-              are.onward passed_take_effect,
-        );
-        none = λ empty. omega (arith, are.none empty, kept, passed, within, more.0, ap length empty);
+        within = within;
+        few = λ w most.
+            omega (arith, more.1, passed w most start.position stage.position are.onward passed_take_effect);
       }
 
 -- with those that it took to begin
-pub looks_in_all : (position : Option ℕ) (n old before looks b w : ℕ) → n < 2 ^ b
-    → IfSome position (λ k. before ≤ old + 1) → ((b : ℕ) → n < 2 ^ b → before ≤ old + (b + 2))
-    → looks ≤ before + (w + 1)
-    → looks ≤ old + (first_looks position b + w)
-looks_in_all None n old before looks b w bits known few more = omega (arith, few b bits, more)
-looks_in_all (Some k) n old before looks b w bits known few more = omega (arith, known, more)
+pub looks_in_all : (old before : TransitionView) (position : Option ℕ) (looks b w : ℕ) → length (list_of old) < 2 ^ b
+    → IfSome position (λ k. IsAfterLooks old before 1) → IsAfterSearch old before 2 → looks ≤ looks_of before + (w + 1)
+    → looks ≤ looks_of old + (first_looks position b + w)
+looks_in_all old before None looks b w bits known few more = omega (arith, few.at_most b bits, more)
+looks_in_all old before (Some k) looks b w bits known few more = omega (arith, known.at_most, more)
 
 -- what two facts of a success show
 pub on_ok_both : {T E P Q R : Type 0} (r : Result T E) → (P → Q → R) → OnOk r P → OnOk r Q → OnOk r R

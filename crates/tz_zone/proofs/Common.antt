@@ -63,7 +63,7 @@ pub use Rattle.tz_zone.specs.Changes.{change_of, Change, HasNoChange, HasNoPrece
 pub use Rattle.tz_zone.specs.Clock.{IsClock, AreReached, IsTypeOfLast, IsTypeAt, IsTypeWithout, IsTypeAfter, AreAhead, HasNoType, IsLast, IsTypeAfterTable, IsFaultAfter, IsLookupFault, IsPositionAt, IsTransitionType, IsOver, IsTypeWith}
 pub use Rattle.tz_zone.specs.ClockSegments.{IsReachedAt, IsBefore, from_start, IsSegmentAt}
 pub use Rattle.tz_zone.specs.LeapTime.{IsWideEffect, IsInstant, IsLeapTimeRefused, IsPastInstants, IsReached, IsLeapTime, IsTimeReached, correction_before, IsBeforeStart, IsStart, IsCorrection, IsEffect, IsLastBefore, IsOneSecond, correction_at, correction_at_start, IsEffectRefused}
-pub use Rattle.tz_zone.specs.Looks.{list_of, looks_of, one_look_more-one_more, IsAfterLooks, IsAfterSearch}
+pub use Rattle.tz_zone.specs.Looks.{list_of, looks_of, IsAfterLooks, IsAfterSearch}
 pub use Rattle.tz_zone.specs.Offsets.{IsOffsetOfTypes, IsOffsetOfRule, AreEndOffsets, IsOffset}
 pub use Rattle.tz_zone.specs.PositionsLeft.{IsAmongPositions}
 pub use Rattle.tz_zone.specs.Runs.{IsRunStart, LiesAt, HasNoneAfterSeam, IsSeam, IsWalkedDown, IsWalkedUp}

@@ -1,7 +1,6 @@
 -- A view of transitions, and its count of looks: one more for each look. A count of 64 bits stays
 -- at its greatest.
-use Rattle.std.specs.Prelude.{◌≡◌, ℕ, ◌+◌, ◌^◌, ◌<◌, ◌≤◌, List, length, take, drop, Bool, true, false, nat_lt, if◌then◌else◌}
-use Rattle.std.proofs.Common.{arith}
+use Rattle.std.specs.Prelude.{◌≡◌, ℕ, ◌+◌, ◌^◌, ◌<◌, ◌≤◌, List, length, take, drop, Bool, nat_lt, if◌then◌else◌}
 use Rattle.tz_zone.specs.Table.{Transition}
 use Rattle.tz_zone.specs.declared.table.transition_view.TransitionView.{TransitionView}
 
@@ -20,16 +19,6 @@ may_guess_of view = view.may_guess
 -- the count after one more look, in 64 bits
 abbrev pub one_look_more : ℕ → ℕ
 one_look_more n = (if nat_lt n 18446744073709551615 then n + 1 else n)
-
-pub one_look_more-no_less : (n : ℕ) → n ≤ one_look_more n
-one_look_more-no_less n =
-    elim (nat_lt n 18446744073709551615) as (λ t. n ≤ (if t then n + 1 else n))
-    [ true ↦ omega arith | false ↦ omega arith ]
-
-pub one_look_more-one_more : (n : ℕ) → one_look_more n ≤ n + 1
-one_look_more-one_more n =
-    elim (nat_lt n 18446744073709551615) as (λ t. (if t then n + 1 else n) ≤ n + 1)
-    [ true ↦ omega arith | false ↦ omega arith ]
 
 -- a view after at most so many looks: its list is the same, and its count up to so much greater
 pub record IsAfterLooks (before after : TransitionView) (most : ℕ) : Type 0 where

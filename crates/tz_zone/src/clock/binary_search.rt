@@ -6,7 +6,7 @@ ghost use Rattle.std.specs.Prelude.{IfNone, MatchOption};
 ghost use Rattle.tz_zone.specs.Clock.{AreReached, AreAhead, IsLast, IsPositionAt};
 ghost use Rattle.tz_zone.specs.ClockSegments.{IsReachedAt};
 ghost use Rattle.tz_zone.specs.LeapTime.{IsLeapTimeRefused};
-ghost use Rattle.tz_zone.specs.Looks.{list_of, looks_of, may_guess_of, one_look_more};
+ghost use Rattle.tz_zone.specs.Looks.{list_of, looks_of, may_guess_of, one_look_more, IsAfterLooks, IsAfterSearch};
 ghost use Rattle.tz_zone.specs.PositionsLeft.{IsAmongPositions};
 ghost use Rattle.tz_zone.specs.Runs.{LiesAt};
 ghost use Rattle.tz_zone.specs.ValidZone.{IsRising};
@@ -65,12 +65,10 @@ fn position_after_look(
     requires rising { IsRising (list_of view.old) }
     requires order { position < later }
     requires within { later ≤ length (list_of view.old) }
-    ensures same { list_of view.new ≡ list_of view.old }
     ensures position { ((result ≡ later) × AreReached (list_of view.old) unix_leap_time later)
         ⊎ ((result ≡ position) × AreAhead (list_of view.old) unix_leap_time (later - 1)) }
     ensures counted { looks_of view.new ≡ one_look_more (looks_of view.old) }
-    ensures kept { looks_of view.old ≤ looks_of view.new }
-    ensures at_most { looks_of view.new ≤ looks_of view.old + 1 }
+    ensures looks { IsAfterLooks view.old view.new 1 }
 {
     later_if_reached(view.look(later - 1), position, later, unix_leap_time)
 }
@@ -81,11 +79,9 @@ fn half(view: &mut TransitionView<'_>, position: usize, count: usize, unix_leap_
     requires rising { IsRising (list_of view.old) }
     requires some { 0 < count }
     requires among { IsAmongPositions (list_of view.old) unix_leap_time position (count + count) }
-    ensures same { list_of view.new ≡ list_of view.old }
     ensures rising { IsRising (list_of view.new) }
     ensures among { IsAmongPositions (list_of view.new) unix_leap_time result count }
-    ensures kept { looks_of view.old ≤ looks_of view.new }
-    ensures at_most { looks_of view.new ≤ looks_of view.old + 1 }
+    ensures looks { IsAfterLooks view.old view.new 1 }
 {
     position_after_look(view, position, position + count, unix_leap_time)
 }
@@ -107,9 +103,8 @@ fn halved(
     requires among { IsAmongPositions (list_of view.old) unix_leap_time position count }
     ensures same { list_of view.new ≡ list_of view.old }
     ensures among { IsAmongPositions (list_of view.new) unix_leap_time result least }
-    ensures kept { looks_of view.old ≤ looks_of view.new }
-    ensures at_most { (e f : ℕ) → count ≡ 2 ^ e → least ≡ 2 ^ f → f ≤ e
-        → looks_of view.new + f ≤ looks_of view.old + e }
+    ensures looks { (e f : ℕ) → count ≡ 2 ^ e → least ≡ 2 ^ f → f ≤ e
+        → IsAfterLooks view.old view.new (e - f) }
 {
     let mut position = position;
     let mut left = count;
@@ -160,10 +155,8 @@ fn place_in_block(block: &[Transition; BLOCK], unix_leap_time: i64) -> usize
 fn position_in_block(view: &mut TransitionView<'_>, position: usize, unix_leap_time: i64) -> usize
     requires rising { IsRising (list_of view.old) }
     requires among { IsAmongPositions (list_of view.old) unix_leap_time position 128 }
-    ensures same { list_of view.new ≡ list_of view.old }
     ensures among { IsAmongPositions (list_of view.new) unix_leap_time result 1 }
-    ensures kept { looks_of view.old ≤ looks_of view.new }
-    ensures at_most { looks_of view.new ≤ looks_of view.old + 7 }
+    ensures looks { IsAfterLooks view.old view.new 7 }
 {
     if view.may_guess() {
         if let Some(block) = view.chunk_at(position) {
@@ -181,12 +174,9 @@ fn position_by_halving(view: &mut TransitionView<'_>, unix_leap_time: i64) -> us
     requires rising { IsRising (list_of view.old) }
     requires at_least_one { 0 < length (list_of view.old) }
     requires ahead { AreAhead (list_of view.old) unix_leap_time (length (list_of view.old) - 1) }
-    ensures same { list_of view.new ≡ list_of view.old }
     ensures within { result < length (list_of view.old) }
     ensures at { IsPositionAt (list_of view.old) unix_leap_time result }
-    ensures kept { looks_of view.old ≤ looks_of view.new }
-    ensures at_most { (b : ℕ) → length (list_of view.old) < 2 ^ b
-        → looks_of view.new ≤ looks_of view.old + b }
+    ensures looks { IsAfterSearch view.old view.new 0 }
 {
     let count = view.len();
     if count == 1 {
@@ -258,12 +248,9 @@ fn position_before(view: &mut TransitionView<'_>, last: Transition, unix_leap_ti
     requires rising { IsRising (list_of view.old) }
     requires at_least_one { 0 < length (list_of view.old) }
     requires ahead { AreAhead (list_of view.old) unix_leap_time (length (list_of view.old) - 1) }
-    ensures same { list_of view.new ≡ list_of view.old }
     ensures within { result < length (list_of view.old) }
     ensures at { IsPositionAt (list_of view.old) unix_leap_time result }
-    ensures kept { looks_of view.old ≤ looks_of view.new }
-    ensures at_most { (b : ℕ) → length (list_of view.old) < 2 ^ b
-        → looks_of view.new ≤ looks_of view.old + b }
+    ensures looks { IsAfterSearch view.old view.new 0 }
 {
     let count = view.len();
     if count <= MOST_GUESSED && view.may_guess() {
@@ -288,12 +275,9 @@ pub(super) fn position_of(
     requires rising { IsRising (list_of view.old) }
     requires last { IsLast (list_of view.old) last }
     requires at_least_one { 0 < length (list_of view.old) }
-    ensures same { list_of view.new ≡ list_of view.old }
     ensures within { result ≤ length (list_of view.old) }
     ensures at { IsPositionAt (list_of view.old) unix_leap_time result }
-    ensures kept { looks_of view.old ≤ looks_of view.new }
-    ensures at_most { (b : ℕ) → length (list_of view.old) < 2 ^ b
-        → looks_of view.new ≤ looks_of view.old + b }
+    ensures looks { IsAfterSearch view.old view.new 0 }
 {
     if last.unix_leap_time() <= unix_leap_time {
         return view.len();
@@ -313,15 +297,13 @@ pub(super) fn position_at(
 ) -> Option<usize>
     requires view { list_of view.old ≡ (zone_of_data zone.now).transitions }
     requires at_least_one { 0 < length (list_of view.old) }
-    ensures same { list_of view.new ≡ list_of view.old }
     ensures position { MatchOption result
         (IsLeapTimeRefused (zone_of_data zone.now).leap_seconds unix_time)
         (λ position. (position ≤ length (list_of view.old))
         × IsReachedAt (zone_of_data zone.now) unix_time position) }
     ensures at_least_one { one_look_more (looks_of view.old) ≤ looks_of view.new }
-    ensures at_most { (b : ℕ) → length (list_of view.old) < 2 ^ b
-        → looks_of view.new ≤ looks_of view.old + (b + 1) }
-    ensures none { IfNone result (looks_of view.new ≤ looks_of view.old + 1) }
+    ensures none { IfNone result (IsAfterLooks view.old view.new 1) }
+    ensures looks { IsAfterSearch view.old view.new 1 }
 {
     let count = view.len();
     let last = view.look(count - 1);

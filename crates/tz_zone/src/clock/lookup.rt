@@ -1,9 +1,9 @@
 //! The clock's type at an instant, over a view of the transitions.
 
-ghost use Rattle.std.specs.Prelude.{◌≡◌, ◌≢◌, ℤ, pos, negsuc, ◌+ℤ◌, ◌≤ℤ◌, MatchOption, ◌+◌, ◌<◌, ◌≤◌, length, slice_get, Some, ℕ, ◌^◌, [], IfOk, IfErr};
+ghost use Rattle.std.specs.Prelude.{◌≡◌, min, ◌≢◌, ℤ, pos, negsuc, ◌+ℤ◌, ◌≤ℤ◌, MatchOption, ◌+◌, ◌<◌, ◌≤◌, length, Some, [], IfOk, IfErr};
 ghost use Rattle.tz_rule.specs.LocalTimeType.{LocalTimeType};
 ghost use Rattle.tz_zone.specs.Clock.{IsTypeAfter, IsTypeAfterTable, IsTypeAt, IsTypeOfLast, IsClock, HasNoType, IsLookupFault};
-ghost use Rattle.tz_zone.specs.Looks.{list_of, looks_of, one_look_more};
+ghost use Rattle.tz_zone.specs.Looks.{list_of, looks_of, one_look_more, IsAfterLooks, IsAfterSearch};
 ghost use Rattle.tz_zone.specs.TableChanges.{IsChangeByRule};
 ghost use Rattle.tz_zone.specs.ZoneOfData.{zone_of_data};
 ghost use Rattle.tz_zone.specs.ClockSegments.{IsBefore, IsReachedAt};
@@ -62,11 +62,8 @@ pub(super) fn type_from_last<'a>(zone: &ZoneData<'a>, unix_time: i64) -> Option<
 /// time, to the first type.
 pub(super) fn before(view: &mut TransitionView<'_>, position: usize) -> Transition
     requires { position ≤ length (list_of view.old) }
-    ensures same { list_of view.new ≡ list_of view.old }
     ensures before { IsBefore (list_of view.old) position result }
-    ensures kept { looks_of view.old ≤ looks_of view.new }
-    ensures at_most { looks_of view.new ≤ looks_of view.old + 1 }
-    ensures first { position ≡ 0 → looks_of view.new ≡ looks_of view.old }
+    ensures looks { IsAfterLooks view.old view.new (min position 1) }
 {
     if position == 0 {
         return Transition::new(i64::MIN, 0);
@@ -90,11 +87,8 @@ pub(super) fn type_before<'a>(
 ) -> &'a LocalTimeType
     requires view { list_of view.old ≡ (zone_of_data zone.now).transitions }
     requires position { position ≤ length (list_of view.old) }
-    ensures same { list_of view.new ≡ list_of view.old }
     ensures value { IsTypeOfLast (zone_of_data zone.now) position result.now }
-    ensures kept { looks_of view.old ≤ looks_of view.new }
-    ensures at_most { looks_of view.new ≤ looks_of view.old + 1 }
-    ensures first { position ≡ 0 → looks_of view.new ≡ looks_of view.old }
+    ensures looks { IsAfterLooks view.old view.new (min position 1) }
 {
     let change = before(view, position);
     type_of(zone, change)
@@ -144,12 +138,9 @@ pub fn find_local_time_type<'a>(
     unix_time: i64,
 ) -> Result<&'a LocalTimeType, TzError>
     requires view { list_of view.old ≡ (zone_of_data zone.now).transitions }
-    ensures same { list_of view.new ≡ list_of view.old }
     ensures ok { IfOk result (λ t. IsClock (zone_of_data zone.now) unix_time t.now) }
     ensures err { IfErr result (IsLookupFault (zone_of_data zone.now) unix_time) }
-    ensures kept { looks_of view.old ≤ looks_of view.new }
-    ensures at_most { (b : ℕ) → length (list_of view.old) < 2 ^ b
-        → looks_of view.new ≤ looks_of view.old + (b + 2) }
+    ensures looks { IsAfterSearch view.old view.new 2 }
     ensures at_least_one { 0 < length (list_of view.old)
         → one_look_more (looks_of view.old) ≤ looks_of view.new }
     ensures none { list_of view.old ≡ [] → looks_of view.new ≡ looks_of view.old }

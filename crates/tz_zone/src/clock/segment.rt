@@ -1,9 +1,9 @@
 //! Changes of a clock, and segments: spans of time through which it keeps its type.
 
-ghost use Rattle.std.specs.Prelude.{◌≡◌, pos, negsuc, ◌-ℤ◌, ◌<ℤ◌, IfSome, IfNone, MatchOption, ◌≢◌, ◌⊎◌, ℕ, ℤ, ◌+◌, ◌^◌, ◌<◌, ◌≤◌, ◌+ℤ◌, ◌≤ℤ◌, [], length, None, ◌↔◌, IsTrue, option_copied};
+ghost use Rattle.std.specs.Prelude.{◌≡◌, pos, negsuc, ◌-ℤ◌, ◌<ℤ◌, IfSome, IfNone, MatchOption, ◌≢◌, ◌⊎◌, ℤ, ◌+◌, ◌<◌, ◌≤◌, ◌+ℤ◌, ◌≤ℤ◌, [], length, None, ◌↔◌, IsTrue, option_copied};
 ghost use Rattle.tz_zone.specs.Changes.{Change as ChangeParts, change_of, IsChange};
 ghost use Rattle.tz_zone.specs.Clock.{IsClock, HasNoType, IsTypeAfter};
-ghost use Rattle.tz_zone.specs.Looks.{list_of, looks_of, one_look_more};
+ghost use Rattle.tz_zone.specs.Looks.{list_of, looks_of, one_look_more, IsAfterLooks, IsAfterSearch};
 ghost use Rattle.tz_zone.specs.Table.{Zone};
 ghost use Rattle.tz_rule.specs.LocalTimeType.{LocalTimeType};
 ghost use Rattle.tz_zone.specs.LeapTime.{IsBeforeStart, IsPastInstants, IsLeapTimeRefused, IsWideEffect, IsTimeReached};
@@ -230,11 +230,9 @@ fn segment_at_position<'a>(
     requires at_least_one { 0 < length (list_of view.old) }
     requires within { position ≤ length (list_of view.old) }
     requires at { IsReachedAt (zone_of_data zone.now) unix_time position }
-    ensures same { list_of view.new ≡ list_of view.old }
     ensures at { IsSegmentAt (zone_of_data zone.now) unix_time result }
     ensures ends { HasTableEnds (zone_of_data zone.now) result.from result.last }
-    ensures kept { looks_of view.old ≤ looks_of view.new }
-    ensures at_most { looks_of view.new ≤ looks_of view.old + 2 }
+    ensures looks { IsAfterLooks view.old view.new 2 }
 {
     let before = before(view, position);
     if position == view.len() {
@@ -256,12 +254,9 @@ pub fn clock_segment_at<'a>(
     unix_time: i64,
 ) -> Segment<'a>
     requires view { list_of view.old ≡ (zone_of_data zone.now).transitions }
-    ensures same { list_of view.new ≡ list_of view.old }
     ensures at { IsSegmentAt (zone_of_data zone.now) unix_time result }
     ensures ends { HasTableEnds (zone_of_data zone.now) result.from result.last }
-    ensures kept { looks_of view.old ≤ looks_of view.new }
-    ensures at_most { (b : ℕ) → length (list_of view.old) < 2 ^ b
-        → looks_of view.new ≤ looks_of view.old + (b + 3) }
+    ensures looks { IsAfterSearch view.old view.new 3 }
     ensures at_least_one { 0 < length (list_of view.old)
         → one_look_more (looks_of view.old) ≤ looks_of view.new }
     ensures none { list_of view.old ≡ [] → looks_of view.new ≡ looks_of view.old }

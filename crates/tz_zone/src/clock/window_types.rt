@@ -1,9 +1,9 @@
 //! The types that a clock has in a window of instants, and its spans one after the other.
 
-ghost use Rattle.std.specs.Prelude.{◌≡◌, ◌⊎◌, ℕ, ℤ, pos, ◌+◌, ◌+ℤ◌, ◌^◌, ◌<◌, ◌≤◌, ◌≤ℤ◌, ◌<ℤ◌, [], length, IfSome, MatchOption, ◌≢◌, ◌==◌, Some};
+ghost use Rattle.std.specs.Prelude.{◌≡◌, ◌-◌, ◌⊎◌, ℤ, pos, ◌+◌, ◌+ℤ◌, ◌<◌, ◌≤◌, ◌≤ℤ◌, ◌<ℤ◌, [], length, IfSome, MatchOption, ◌==◌, Some};
 ghost use Rattle.tz_zone.specs.Clock.{IsClock, HasNoType, IsPositionAt, IsTypeAfterTable};
 ghost use Rattle.tz_zone.specs.ClockSpans.{IsStage};
-ghost use Rattle.tz_zone.specs.Looks.{list_of, looks_of, one_look_more};
+ghost use Rattle.tz_zone.specs.Looks.{list_of, looks_of, one_look_more, IsAfterLooks, IsAfterSearch};
 ghost use Rattle.tz_zone.specs.TableChanges.{IsChangeByRule};
 ghost use Rattle.tz_zone.specs.WindowTypes.{IsPositionOf, AreTypesIn, IfMore};
 ghost use Rattle.tz_zone.specs.ZoneOfData.{zone_of_data};
@@ -50,17 +50,14 @@ pub fn first_stage<'a>(
 ) -> Option<(i64, Stage<'a>)>
     requires view { list_of view.old ≡ (zone_of_data zone.now).transitions }
     requires position { IsPositionOf (zone_of_data zone.now) unix_time position }
-    ensures same { list_of view.new ≡ list_of view.old }
     ensures stage { MatchOption result
         ((v : ℤ) → unix_time ≤ℤ v → v ≤ℤ pos 9223372036854775807
         → HasNoType (zone_of_data zone.now) v)
         (λ found. (unix_time ≤ℤ found.0)
         × IsStage (zone_of_data zone.now) found.0 found.0 found.1
         × ((v : ℤ) → unix_time ≤ℤ v → v <ℤ found.0 → HasNoType (zone_of_data zone.now) v)) }
-    ensures kept { looks_of view.old ≤ looks_of view.new }
-    ensures at_most { (b : ℕ) → length (list_of view.old) < 2 ^ b
-        → looks_of view.new ≤ looks_of view.old + (b + 2) }
-    ensures known { IfSome position (λ k. looks_of view.new ≤ looks_of view.old + 1) }
+    ensures looks { IsAfterSearch view.old view.new 2 }
+    ensures known { IfSome position (λ k. IsAfterLooks view.old view.new 1) }
     ensures none { list_of view.old ≡ [] → looks_of view.new ≡ looks_of view.old }
 {
     if let Some(position) = position {
@@ -97,7 +94,6 @@ pub fn span_from<'a>(
     requires view { list_of view.old ≡ (zone_of_data zone.now).transitions }
     requires stage { (first : ℤ) × IsStage (zone_of_data zone.now) first since stage }
     requires window { (since ≤ℤ high) × (high ≤ℤ pos 80000000000000000) }
-    ensures same { list_of view.new ≡ list_of view.old }
     ensures up_to { result.last ≤ℤ high }
     ensures holds { (v : ℤ) → since ≤ℤ v → v ≤ℤ result.last
         → MatchOption result.local_time_type (HasNoType (zone_of_data zone.now) v)
@@ -110,9 +106,7 @@ pub fn span_from<'a>(
     ensures within { result.next.position ≤ length (list_of view.old) }
     ensures whole { stage.entry.position ≡ length (list_of view.old) → (result.last ≡ high)
         ⊎ IsChangeByRule (zone_of_data zone.now).extra_rule (result.last +ℤ pos 1) }
-    ensures kept { looks_of view.old ≤ looks_of view.new }
-    ensures at_most { looks_of view.new + stage.entry.position ≤ looks_of view.old
-        + result.next.position }
+    ensures looks { IsAfterLooks view.old view.new (result.next.position - stage.entry.position) }
 {
     let count = view.len();
     if stage.position == count {
@@ -211,12 +205,10 @@ fn types_at_position<'a>(
     requires position { position < length (list_of view.old) }
     requires leap { IsLeapTime (zone_of_data zone).leap_seconds low low_leap_time }
     requires at { IsPositionAt (list_of view.old) low_leap_time position }
-    ensures same { list_of view.new ≡ list_of view.old }
     ensures types { AreTypesIn (IsClock (zone_of_data zone.entry)) low high result }
-    ensures kept { looks_of view.old ≤ looks_of view.new }
-    ensures at_most { looks_of view.new ≤ looks_of view.old + 3 }
+    ensures looks { IsAfterLooks view.old view.new 3 }
     ensures more { IfMore result (λ from. (from ≡ Some position)
-        × (looks_of view.new ≤ looks_of view.old + 2)) }
+        × IsAfterLooks view.old view.new 2) }
 {
     let leap_seconds = zone.leap_seconds;
     let count = view.len();
@@ -267,16 +259,11 @@ pub fn window_types<'a>(
     high: i64,
 ) -> WindowTypes<'a>
     requires view { list_of view.old ≡ (zone_of_data zone).transitions }
-    ensures same { list_of view.new ≡ list_of view.old }
     ensures types { AreTypesIn (IsClock (zone_of_data zone.entry)) low high result }
-    ensures kept { looks_of view.old ≤ looks_of view.new }
-    ensures at_most { (b : ℕ) → length (list_of view.old) < 2 ^ b
-        → looks_of view.new ≤ looks_of view.old + (b + 4) }
+    ensures looks { IsAfterSearch view.old view.new 4 }
     ensures position { IfMore result (IsPositionOf (zone_of_data zone.entry) low) }
     ensures more { IfMore result (λ position. MatchOption position
-        (looks_of view.new ≤ looks_of view.old + 1)
-        (λ k. (b : ℕ) → length (list_of view.old) < 2 ^ b
-        → looks_of view.new ≤ looks_of view.old + (b + 3))) }
+        (IsAfterLooks view.old view.new 1) (λ k. IsAfterSearch view.old view.new 3)) }
     ensures at_least_one { 0 < length (list_of view.old)
         → one_look_more (looks_of view.old) ≤ looks_of view.new }
     ensures none { list_of view.old ≡ [] → looks_of view.new ≡ looks_of view.old }

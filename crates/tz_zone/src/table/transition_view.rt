@@ -21,7 +21,7 @@ pub struct TransitionView<'a> {
 
 impl<'a> TransitionView<'a> {
     ghost use Rattle.std.specs.Prelude.{◌≡◌, ◌+◌, ◌<◌, ◌≤◌, ◌^◌, length, slice_get, Some, IfSome, IsTrue, true, false};
-    ghost use Rattle.tz_zone.specs.Looks.{list_of, looks_of, may_guess_of, one_look_more, IsChunkAt};
+    ghost use Rattle.tz_zone.specs.Looks.{list_of, looks_of, may_guess_of, one_look_more, IsAfterLooks, IsChunkAt};
 
     /// The view of these transitions for a caller that wants no count: a position may be guessed,
     /// and several transitions read as an array.
@@ -67,10 +67,8 @@ impl<'a> TransitionView<'a> {
     pub fn look(&mut self, index: usize) -> Transition
         requires { index < length (list_of self.old) }
         ensures value { slice_get (list_of self.old) index ≡ Some result }
-        ensures same { list_of self.new ≡ list_of self.old }
         ensures counted { looks_of self.new ≡ one_look_more (looks_of self.old) }
-        ensures kept { looks_of self.old ≤ looks_of self.new }
-        ensures at_most { looks_of self.new ≤ looks_of self.old + 1 }
+        ensures looks { IsAfterLooks self.old self.new 1 }
     {
         self.looks = self.looks.saturating_add(1);
         self.transitions[index]
@@ -91,12 +89,9 @@ impl<'a> TransitionView<'a> {
 
     /// Counts the looks at a view that [`TransitionView::fresh`] returned.
     pub fn add_looks(&mut self, looks: u64)
-        ensures same { list_of self.new ≡ list_of self.old }
         ensures sum { looks_of self.old + looks < 2 ^ 64
             → looks_of self.new ≡ looks_of self.old + looks }
-        ensures kept { looks_of self.old ≤ looks_of self.new }
-        ensures at_most { looks_of self.new ≤ looks_of self.old + looks }
-        ensures none { looks ≡ 0 → looks_of self.new ≡ looks_of self.old }
+        ensures looks { IsAfterLooks self.old self.new looks }
     {
         self.looks = self.looks.saturating_add(looks);
     }

@@ -87,25 +87,19 @@ returns-in-More-clause-ok g c = rw (to_z-of_z w64 c.args.reading c.ranges.readin
 
 pub returns-in-More-clause-at_most : goal.returns-in-More-clause-at_most
 returns-in-More-clause-at_most g c =
-    let most = rw (
-      to_z-of_z w64 c.args.low c.ranges.low,
-      to_z-of_z w64 c.args.high c.ranges.high,
-    ) at c.walk-answer.ensures.at_most in
+    let low_is = to_z-of_z w64 c.args.low c.ranges.low in
+    let most = rw (low_is, to_z-of_z w64 c.args.high c.ranges.high) at c.walk-answer.ensures.at_most in
+    let begun = c.fresh-rest.ensures in
+    let added = c.add_looks.ensures.looks.at_most in
     rw c.in-More.is (on_ok_weaker c.walk-answer.result
-    (λ at_most b w bits within. omega (
-      arith,
-      at_most b w (rw c.fresh-rest.ensures.list bits) within,
-      c.fresh-rest.ensures.looks,
-      c.looks.ensures,
-      c.add_looks.ensures.at_most,
-    )) most)
+    (λ at_most b w bits within.
+    omega (arith, at_most b w (rw begun.list bits) within, begun.looks, c.looks.ensures, added)) most)
 
 pub returns-in-More-clause-none : goal.returns-in-More-clause-none
 returns-in-More-clause-none g c =
+    let begun = c.fresh-rest.ensures in
+    let added = c.add_looks.ensures.looks in
     on_ok_weaker c.walk-answer.result
-    (λ none empty. c.add_looks.ensures.none (omega (
-      arith,
-      none (rw c.fresh-rest.ensures.list empty),
-      c.fresh-rest.ensures.looks,
-      c.looks.ensures,
-    ))) c.walk-answer.ensures.none
+    (λ none empty.
+    omega (arith, none (rw begun.list empty), begun.looks, c.looks.ensures, added.kept, added.at_most))
+    c.walk-answer.ensures.none

@@ -1,7 +1,7 @@
 -- From one span to the next, up to the end of the window.
-use Rattle.tz.proofs.Common.{arith, refl, ◌≡◌, ◌∙◌, ints, inr, inl, [], to_z-of_z, rules, ◌+◌, pos, w64, IsClock, ◌≤◌, ◌++◌, ◌-ℤ◌, ◌+ℤ◌, ◌<ℤ◌, ◌≤ℤ◌, None, err_from_is_err_and, zone_of_data, SFits, borrowed_type, IsInstant-from_bounds, instant_bounds, looks_of}
+use Rattle.tz.proofs.Common.{arith, refl, ◌≡◌, ◌∙◌, ints, inr, inl, [], to_z-of_z, rules, ◌+◌, pos, w64, IsClock, ◌≤◌, ◌++◌, ◌-ℤ◌, ◌+ℤ◌, ◌<ℤ◌, ◌≤ℤ◌, None, err_from_is_err_and, zone_of_data, SFits, borrowed_type, IsInstant-from_bounds, instant_bounds, list_of, nil_from_length, ap, length}
 use Rattle.tz.proofs.EntryWalks.{few_entries, refused_there, room_less, span_holds, walked_on, walked_to_end, walked_to_first}
-use Rattle.tz.proofs.WalkLooks.{looks_at_first, looks_in_all, looks_on}
+use Rattle.tz.proofs.WalkLooks.{looks_in_all, looks_on}
 use Rattle.tz.proofs.datetime.gaps_and_folds.walk.Goals as goal
 
 pub returns-in_default-clause-ok : goal.returns-in_default-clause-ok
@@ -25,17 +25,11 @@ loop-since-init g c =
     let z = zone_of_data c.args.zone.now in
     let first = c.in-Some.first in
     let fits : SFits w64 first = search rules in
+    let reading_is = to_z-of_z w64 c.args.reading c.ranges.reading in
     let low_is = to_z-of_z w64 c.args.low c.ranges.low in
+    let high_is = to_z-of_z w64 c.args.high c.ranges.high in
     let found = rw low_is at c.in-Some.ensures.stage in
-    rw (
-      c.first_stage.ensures.same,
-      to_z-of_z w64 c.args.reading c.ranges.reading,
-      low_is,
-      to_z-of_z w64 c.args.high
-          c.ranges.high,
-      to_z-of_z w64 first fits,
-    ) (record {
-      same = refl;
+    rw (reading_is, low_is, high_is, to_z-of_z w64 first fits) (record {
       fits = fits;
       stage = λ inside. found.1;
       found = (
@@ -44,24 +38,24 @@ loop-since-init g c =
         walked_to_first (IsClock z) c.args.low c.args.high
             c.args.reading c.requires.searchable.offsets first found.0 found.2,
       );
-      looks = looks_at_first z c.args.low c.args.high c.in-Some.stage.position
-          (looks_of c.first_stage.new.view);
+      looks = record {
+        taken = search rules;
+        onward = omega arith;
+        within = found.1.within;
+        few = λ w most. omega arith;
+      };
     })
 
 pub span_from-span-requires-clause-view : goal.span_from-span-requires-clause-view
-span_from-span-requires-clause-view g c = c.loop-since.invariant.same ∙ c.first_stage.ensures.same ∙ c.requires.view
+span_from-span-requires-clause-view g c =
+    c.loop-since.invariant.looks.taken.same ∙ c.first_stage.ensures.looks.same ∙ c.requires.view
 
 pub span_from-span-requires-clause-stage : goal.span_from-span-requires-clause-stage
 span_from-span-requires-clause-stage g c =
     let first = c.in-Some.first in
     let high_is = to_z-of_z w64 c.args.high c.ranges.high in
-    let so_far = rw (
-      c.first_stage.ensures.same,
-      high_is,
-      to_z-of_z w64 first
-          (search rules),
-      c.loop-since.since-is,
-    ) at c.loop-since.invariant in
+    let first_is = to_z-of_z w64 first (search rules) in
+    let so_far = rw (high_is, first_is, c.loop-since.since-is) at c.loop-since.invariant in
     rw c.loop-since.since-is (
       first,
       so_far.stage (omega (arith, ints, c.loop-since-test.true, c.loop-since.since-is, high_is)),
@@ -75,15 +69,10 @@ returns-in_err-give-clause-err g c =
     let span = c.span_from-span.result in
     let reading_is = to_z-of_z w64 c.args.reading c.ranges.reading in
     let last_is = to_z-of_z w64 span.last (search rules) in
-    let so_far = rw (
-      c.first_stage.ensures.same,
-      reading_is,
-      to_z-of_z w64 c.args.low
-          c.ranges.low,
-      c.loop-since.since-is,
-    ) at c.loop-since.invariant in
+    let low_is = to_z-of_z w64 c.args.low c.ranges.low in
+    let so_far = rw (reading_is, low_is, c.loop-since.since-is) at c.loop-since.invariant in
     let holds = span_holds z s.sound.leap_seconds_are since span.last span.local_time_type
-    (rw (so_far.same, c.loop-since.since-is) at c.span_from-span.ensures).holds in
+    (rw c.loop-since.since-is at c.span_from-span.ensures.holds) in
     let some : since ≤ℤ span.last = omega (arith, ints, c.if-since-span.true, c.loop-since.since-is, last_is) in
     let refused = rw (reading_is, c.loop-since.since-is, last_is) at c.in_err-give.ensures.err in
     let p = err_from_is_err_and c.from_residual.result c.from_residual.ensures.1 in
@@ -133,15 +122,9 @@ loop-since-preserved-then-since-span g c =
     let last_is = to_z-of_z w64 last (search rules) in
     let since_is = c.loop-since.since-is in
     let begun = rw low_is at c.in-Some.ensures.stage in
-    let so_far = rw (
-      c.first_stage.ensures.same,
-      reading_is,
-      low_is,
-      high_is,
-      first_is,
-      since_is,
-    ) at c.loop-since.invariant in
-    let ensured = rw (so_far.same, high_is, since_is) at c.span_from-span.ensures in
+    let so_far = rw (reading_is, low_is, high_is, first_is, since_is) at c.loop-since.invariant in
+    let ensured = rw (high_is, since_is) at c.span_from-span.ensures in
+    let list_is = so_far.looks.taken.same ∙ c.first_stage.ensures.looks.same ∙ c.requires.view in
     let inside : since ≤ℤ high = omega (arith, ints, c.loop-since-test.true, since_is, high_is) in
     let some : since ≤ℤ last = omega (arith, ints, c.if-since-span.true, since_is, last_is) in
     let next_fits : SFits w64 (last +ℤ pos 1) =
@@ -150,17 +133,7 @@ loop-since-preserved-then-since-span g c =
     let given = rw (reading_is, since_is, last_is) at c.in_ok-give.ensures.ok in
     let holds = span_holds z s.sound.leap_seconds_are since last span.local_time_type ensured.holds in
     let stage = so_far.stage inside in
-    rw (
-      c.first_stage.ensures.same,
-      reading_is,
-      low_is,
-      high_is,
-      first_is,
-      last_is,
-      to_z-of_z w64
-          (last +ℤ pos 1) next_fits,
-    ) (record {
-      same = ensured.same;
+    rw (reading_is, low_is, high_is, first_is, last_is, to_z-of_z w64 (last +ℤ pos 1) next_fits) (record {
       fits = next_fits;
       stage = λ within. ensured.next first (last +ℤ pos 1) stage (omega (arith, ints, some))
           (omega (arith, ints)) within;
@@ -173,28 +146,21 @@ loop-since-preserved-then-since-span g c =
       );
       looks = looks_on z s.sound low high s.reach first begun.0 c.in-Some.stage begun.1 since c.loop-since.stage stage
           inside
-          (looks_of c.first_stage.new.view) (looks_of c.loop-since.view)
-          (looks_of c.span_from-span.new.view) span.next.position
-          so_far.looks ensured.kept ensured.at_most ensured.onward (rw c.requires.view at ensured.within);
+          span.next.position so_far.looks ensured.looks ensured.onward (rw list_is at ensured.within);
     })
 
 pub loop-since-smaller : goal.loop-since-smaller
 loop-since-smaller g c =
     let span = c.span_from-span in
-    let ensured = rw (c.loop-since.invariant.same, c.loop-since.since-is) at span.ensures in
+    let ensured = rw c.loop-since.since-is at span.ensures in
+    let last_is = to_z-of_z w64 span.result.last (search rules) in
     let past : span.result.last <ℤ c.loop-since.since =
-    omega (
-      arith,
-      ints,
-      c.if-since-span.false,
-      c.loop-since.since-is,
-      to_z-of_z w64 span.result.last (search rules),
-    ) in
+    omega (arith, ints, c.if-since-span.false, c.loop-since.since-is, last_is) in
     let one : span.result.next.position ≡ c.loop-since.stage.position + 1 = elim ensured.onward [
       | inl same ↦ absurd (omega (arith, ints, same.1, past))
       | inr one ↦ one
     ] in
-    omega (arith, one, ensured.within)
+    omega (arith, one, ensured.within, ap length c.loop-since.invariant.looks.taken.same)
 
 pub loop-since-preserved : goal.loop-since-preserved
 loop-since-preserved g c =
@@ -209,28 +175,19 @@ loop-since-preserved g c =
     let first_is = to_z-of_z w64 first (search rules) in
     let since_is = c.loop-since.since-is in
     let begun = rw low_is at c.in-Some.ensures.stage in
-    let so_far = rw (
-      c.first_stage.ensures.same,
-      reading_is,
-      low_is,
-      high_is,
-      first_is,
-      since_is,
-    ) at c.loop-since.invariant in
-    let ensured = rw (so_far.same, high_is, since_is) at c.span_from-span.ensures in
+    let so_far = rw (reading_is, low_is, high_is, first_is, since_is) at c.loop-since.invariant in
+    let ensured = rw (high_is, since_is) at c.span_from-span.ensures in
+    let list_is = so_far.looks.taken.same ∙ c.first_stage.ensures.looks.same ∙ c.requires.view in
     let inside : since ≤ℤ high = omega (arith, ints, c.loop-since-test.true, since_is, high_is) in
     let stage = so_far.stage inside in
-    rw (c.first_stage.ensures.same, reading_is, low_is, high_is, first_is, since_is) (record {
-      same = ensured.same;
+    rw (reading_is, low_is, high_is, first_is, since_is) (record {
       fits = so_far.fits;
       stage = λ within. ensured.next first since stage (omega (arith, ints))
           (omega (arith, ints, c.if-since-span.false, since_is, to_z-of_z w64 span.last (search rules))) within;
       found = so_far.found;
       looks = looks_on (zone_of_data c.args.zone.now) s.sound c.args.low high s.reach first begun.0 c.in-Some.stage
           begun.1 since c.loop-since.stage stage inside
-          (looks_of c.first_stage.new.view) (looks_of c.loop-since.view)
-          (looks_of c.span_from-span.new.view) span.next.position
-          so_far.looks ensured.kept ensured.at_most ensured.onward (rw c.requires.view at ensured.within);
+          span.next.position so_far.looks ensured.looks ensured.onward (rw list_is at ensured.within);
     })
 
 pub returns-clause-ok : goal.returns-clause-ok
@@ -240,13 +197,9 @@ returns-clause-ok g c =
     let r = c.args.reading in
     let low = c.args.low in
     let high = c.args.high in
-    let so_far = rw (
-      c.first_stage.ensures.same,
-      to_z-of_z w64 r c.ranges.reading,
-      to_z-of_z w64 low
-          c.ranges.low,
-      c.loop-since.since-is,
-    ) at c.loop-since.invariant in
+    let reading_is = to_z-of_z w64 r c.ranges.reading in
+    let low_is = to_z-of_z w64 low c.ranges.low in
+    let so_far = rw (reading_is, low_is, c.loop-since.since-is) at c.loop-since.invariant in
     let over : high <ℤ c.loop-since.since =
     omega (arith, ints, c.loop-since-test.false, c.loop-since.since-is, to_z-of_z w64 high c.ranges.high) in
     let es = so_far.found.0 in
@@ -256,13 +209,17 @@ returns-clause-ok g c =
 
 pub returns-clause-at_most : goal.returns-clause-at_most
 returns-clause-at_most g c =
-    let looks = rw (
-      to_z-of_z w64 c.args.low c.ranges.low,
-      to_z-of_z w64 c.args.high
-          c.ranges.high,
-    ) at c.loop-since.invariant.looks in
-    λ b w bits most. looks_in_all c.args.position _ _ _ _ b w bits c.first_stage.ensures.known
-    c.first_stage.ensures.at_most (looks.few w most)
+    let low_is = to_z-of_z w64 c.args.low c.ranges.low in
+    let high_is = to_z-of_z w64 c.args.high c.ranges.high in
+    let looks = rw (low_is, high_is) at c.loop-since.invariant.looks in
+    λ b w bits most. looks_in_all c.args.view.now c.first_stage.new.view c.args.position _ b w bits
+    c.first_stage.ensures.known c.first_stage.ensures.looks (omega (arith, looks.taken.at_most, looks.few w most))
+
+pub returns-clause-none : goal.returns-clause-none
+returns-clause-none g c = λ empty.
+    let looks = c.loop-since.invariant.looks in
+    let before = c.first_stage.ensures.none (nil_from_length (list_of c.args.view.now) empty) in
+    omega (arith, before, looks.taken.kept, looks.taken.at_most, looks.within, empty, ap length c.requires.view)
 
 pub give-requires : goal.give-requires
 give-requires g c κs =

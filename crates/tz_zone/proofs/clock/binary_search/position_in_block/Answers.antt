@@ -28,5 +28,5 @@ returns-in-Some-clause-among c =
 pub halved-requires-clause-powers : goal.halved-requires-clause-powers
 halved-requires-clause-powers c = (7, 0, refl, refl, omega arith)
 
-pub returns-clause-at_most : goal.returns-clause-at_most
-returns-clause-at_most c = omega (arith, c.halved.ensures.at_most 7 0 refl refl (omega arith))
+pub returns-clause-looks : goal.returns-clause-looks
+returns-clause-looks c = c.halved.ensures.looks 7 0 refl refl (omega arith)

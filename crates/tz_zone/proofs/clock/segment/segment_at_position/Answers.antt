@@ -20,11 +20,10 @@ returns-then-position-len c =
     let s = c.segment_from_last.result in
     let from_last = c.segment_from_last.ensures in
     let some = rw c.requires.view at c.requires.at_least_one in
-    let count = rw (c.before-before.ensures.same, c.requires.view) at c.len.ensures in
+    let count = rw (c.before-before.ensures.looks.same, c.requires.view) at c.len.ensures in
     let all : k ≡ length z.transitions = omega (arith, c.if-position-len.true, count) in
     let within = rw (to_z-of_z w64 u c.ranges.unix_time) at from_last.within in
     record {
-      same = search rules;
       at = record {
         within = within;
         holds = λ v low high.
@@ -34,8 +33,7 @@ returns-then-position-len c =
       };
       ends = ends_after_all z zone.sound u k c.ranges.unix_time at before is all s.from s.last
           (omega (arith, ints, within.0, within.1)) from_last.reached from_last.from from_last.last;
-      kept = search rules;
-      at_most = search rules;
+      looks = search rules;
     }
 
 pub effect_of_reached-requires-clause-reached : goal.effect_of_reached-requires-clause-reached
@@ -61,7 +59,7 @@ last_before-requires-clause-before c =
     let u = c.args.unix_time in
     let k = c.args.position in
     let next = c.look-next.result in
-    let at_next = rw (c.before-before.ensures.same, c.requires.view) at c.look-next.ensures.value in
+    let at_next = rw (c.before-before.ensures.looks.same, c.requires.view) at c.look-next.ensures.value in
     rw (to_z-of_z w64 c.unix_leap_time-2.result (search rules), c.unix_leap_time-2.ensures) (
       u,
       (instant_bounds u c.ranges.unix_time).0,
@@ -86,14 +84,13 @@ returns c =
     let is = rw c.requires.view at c.before-before.ensures.before in
     let next = c.look-next.result in
     let at_next : slice_get z.transitions k ≡ Some next =
-    rw (c.before-before.ensures.same, c.requires.view) at c.look-next.ensures.value in
+    rw (c.before-before.ensures.looks.same, c.requires.view) at c.look-next.ensures.value in
     let last : SFits w64 c.last_before.result = search rules in
     let time = c.unix_leap_time.ensures in
     let wide = rw (to_z-of_z w64 c.unix_leap_time.result (search rules), time) at c.effect_of_reached.ensures in
     let next_time = c.unix_leap_time-2.ensures in
     let end = rw (to_z-of_z w64 c.unix_leap_time-2.result (search rules), next_time) at c.last_before.ensures in
     rw (to_z-of_z w64 c.effect_of_reached.result (search rules), to_z-of_z w64 c.last_before.result last) (record {
-      same = search rules;
       at = record {
         within = (
           start_up_to z zone.sound u k c.ranges.unix_time at before is c.effect_of_reached.result wide,
@@ -109,6 +106,5 @@ returns c =
       };
       ends = ends_between z zone.sound u k c.ranges.unix_time at before is next at_next c.effect_of_reached.result
           c.last_before.result (instant_bounds c.last_before.result last).1 wide end.next;
-      kept = search rules;
-      at_most = search rules;
+      looks = search rules;
     })

@@ -76,7 +76,7 @@ returns-clause-types c =
     let after = c.type_of-after.result.now in
     let at_next = rw c.requires.view at c.look-next.ensures.value in
     let at_later : slice_get z.transitions (position + 1) ≡ Some later =
-    rw (c.look-next.ensures.same, c.requires.view) at c.look-later.ensures.value in
+    rw (c.look-next.ensures.looks.same, c.requires.view) at c.look-later.ensures.value in
     let next_time = c.unix_leap_time-next_leap_time in
     let next_is = to_z-of_z w64 next_time.result (search rules) in
     let later_time = c.unix_leap_time-later_leap_time in
