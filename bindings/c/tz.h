@@ -349,7 +349,8 @@ typedef struct tz_week_date {
 /* Which date time a local time means. In a fold, where clocks go back: the first by TZ_COMPATIBLE and TZ_EARLIER, the last by TZ_LATER. In a gap, over
    which they jump: as much later as they jump by TZ_COMPATIBLE and TZ_LATER, as much earlier by TZ_EARLIER. By TZ_REJECT none, TZ_NO_DATE_TIME, in both.
    If clocks show it and also jump over it: the first that they show by TZ_COMPATIBLE, the first and the last entry of `tz_find_n` by TZ_EARLIER and
-   TZ_LATER, where a jump means what it means in a gap, and none by TZ_REJECT. */
+   TZ_LATER, where a jump means what it means in a gap, and none by TZ_REJECT. If they jump over it twice and never show it: what it means in the gap of
+   the last jump by TZ_COMPATIBLE and TZ_LATER, and of the first jump by TZ_EARLIER; none by TZ_REJECT. */
 enum { TZ_COMPATIBLE = 0, TZ_EARLIER = 1, TZ_LATER = 2, TZ_REJECT = 3 };
 
 /* ---- Local time types and rules ------------------------------------------------------------------------------------------------------- */

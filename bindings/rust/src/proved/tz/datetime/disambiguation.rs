@@ -21,7 +21,9 @@ use crate::proved::tz_zone::timezone::{LocalTimeType, TimeZoneRef};
 /// If clocks show a local time exactly once and are not set forward over it, all choices mean that.
 /// If they do both, as when they are set back soon after, `Compatible` means the first instant at
 /// which they show it, `Earlier` and `Later` the first and the last entry of
-/// [`DateTime::find`](super::DateTime::find), and `Reject` none.
+/// [`DateTime::find`](super::DateTime::find), and `Reject` none. If they are set forward over it
+/// twice and never show it, `Compatible` and `Later` mean what they mean in the last of the two
+/// gaps, `Earlier` what it means in the first, and `Reject` none.
 #[derive(Clone, Copy, Debug, Default, Hash, PartialEq, Eq)]
 pub enum Disambiguation {
     /// The first instant at which clocks show it, or, in a gap, as much later as clocks are set
