@@ -34,8 +34,9 @@ fn line_of(date: Date) -> TextBuffer
     line
 }
 
-/// Prints `YYYY-MM-DD`, with the year as [`UtcDateTime`](tz::UtcDateTime) prints it, whatever the
-/// format's width. (RFC 3339, section 5.6)
+/// Prints the year, the month and the day, as `2024-01-31`, whatever the format's width. The year
+/// is printed as by [`UtcDateTime`](tz::UtcDateTime), without zeros before it: `33-01-31`. Dates of
+/// the years 1000 to 9999 are a full-date of RFC 3339, section 5.6.
 impl fmt::Display for Date {
     ghost use Rattle.std.specs.Prelude.{Some};
     ghost use Rattle.tz.specs.PrintedText.{date_text};
@@ -87,8 +88,9 @@ impl Date {
     ///
     /// # Errors
     ///
-    /// [`ParseDateTimeError`] with the first part that the text does not have, and its position.
-    /// After a separator that can be a part of a time.
+    /// [`ParseDateTimeError`] with the first part that the text does not have, and its position. A
+    /// text that goes on after the date with `T`, `t` or a space is read on as a date time, so this
+    /// part can be one of the time or of the offset.
     pub fn parse(text: &[u8]) -> Result<Self, ParseDateTimeError>
         ensures ok { IfOk result (IsDateText text.now) }
         ensures err { IfErr result (IsDateTextFault text.now) }

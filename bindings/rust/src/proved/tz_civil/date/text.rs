@@ -22,8 +22,9 @@ fn line_of(date: Date) -> TextBuffer {
     line
 }
 
-/// Prints `YYYY-MM-DD`, with the year as [`UtcDateTime`](crate::UtcDateTime) prints it, whatever the
-/// format's width. (RFC 3339, section 5.6)
+/// Prints the year, the month and the day, as `2024-01-31`, whatever the format's width. The year
+/// is printed as by [`UtcDateTime`](crate::UtcDateTime), without zeros before it: `33-01-31`. Dates of
+/// the years 1000 to 9999 are a full-date of RFC 3339, section 5.6.
 impl fmt::Display for Date {
     fn fmt(&self, f: &mut fmt::Formatter<'_>) -> fmt::Result {
         f.write_str(line_of(*self).as_str())
@@ -59,8 +60,9 @@ impl Date {
     ///
     /// # Errors
     ///
-    /// [`ParseDateTimeError`] with the first part that the text does not have, and its position.
-    /// After a separator that can be a part of a time.
+    /// [`ParseDateTimeError`] with the first part that the text does not have, and its position. A
+    /// text that goes on after the date with `T`, `t` or a space is read on as a date time, so this
+    /// part can be one of the time or of the offset.
     pub fn parse(text: &[u8]) -> Result<Self, ParseDateTimeError> {
         if text.len() > LONGEST {
             return Err(ParseDateTimeError {
