@@ -166,14 +166,6 @@ EXACT = {
         ),
         ("use std::str;\n", ""),
     ),
-    # inline.txt has both: rustc makes a table of the letters if it compiles them by themselves first.
-    "crates/tz_format/src/conversion.rt": tuple(
-        (f"#[inline(always)]\n{tactic}", tactic)
-        for tactic in (
-            "#[tactic(auto, unfolding(crate::specs::Conversions::letter_conversion))]",
-            "#[tactic(auto, unfolding(crate::specs::Conversions::conversion_at))]",
-        )
-    ),
     # The program with zones of its own ends as the proved one does.
     "crates/tz_query/src/query/program.rt": (
         ("\nfn fail<E: Write>(", "\npub(crate) fn fail<E: Write>("),

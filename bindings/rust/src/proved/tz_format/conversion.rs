@@ -87,7 +87,7 @@ pub(crate) enum Conversion {
 }
 
 /// The conversion that one letter spells.
-#[inline]
+#[inline(always)]
 const fn of_letter(letter: u8) -> Option<Conversion> {
     match letter {
         b'Y' => Some(Conversion::Year),
@@ -150,7 +150,7 @@ const fn fraction_at(text: &[u8], position: usize) -> Option<u8> {
 }
 
 /// The conversion that the bytes from a position on spell, and how many of them do.
-#[inline]
+#[inline(always)]
 pub(crate) const fn conversion_at(text: &[u8], position: usize) -> Option<(Conversion, usize)> {
     match byte_at(text, position) {
         b':' => {
