@@ -33,7 +33,7 @@
 //!
 //! The table and the rule of the zone's file. The tail of the table is left out as far as the rule
 //! says the same, so that the clock of the zone is the same at every instant. rustc makes each
-//! constant by [`TimeZoneRef::new`], so one that its check refuses does not compile.
+//! constant by `TimeZoneRef::new`, so one that its check refuses does not compile.
 
 #![no_std]
 #![forbid(unsafe_code)]
