@@ -8,7 +8,8 @@ use tz::{TimeZone, TimeZoneRef};
 use tz_zones::{NAMES, VERSION, named};
 
 /// The folder, if the constants are of its files. If it has slim files, or files of another
-/// version, a line on standard error says so.
+/// version, a line on standard error says so, or the test fails where `bindings/zones/test` has
+/// found the folder's version in the sources.
 pub fn folder() -> Option<PathBuf> {
     let folder = env::var_os("TZDIR").unwrap_or_else(|| "/usr/share/zoneinfo".into());
     let folder = PathBuf::from(folder);
@@ -20,6 +21,8 @@ pub fn folder() -> Option<PathBuf> {
         Ok(bytes) if bytes[32..36] == [0; 4] => "its files are slim".to_string(),
         Ok(_) => return Some(folder),
     };
+    let is_compared = env::var_os("TZ_ZONES_COMPARED").is_some();
+    assert!(!is_compared, "{}: {reason}", folder.display());
     // Not by a macro, whose lines the test harness keeps for tests that fail.
     let line = format!("skipped {}: {reason}\n", folder.display());
     std::io::stderr().write_all(line.as_bytes()).unwrap();
