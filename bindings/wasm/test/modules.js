@@ -108,9 +108,10 @@ test('the types are right', { skip: !isCalled('tsc') && 'no tsc (Debian: node-ty
 
 test('the lines of README print what it says', () => {
   const readme = readFileSync(new URL('../README.md', HERE), 'utf8');
-  const [, script] = /```js\n(import .*?)```/s.exec(readme);
-  const said = [...script.matchAll(/\/\/ (.*)$/gm)].map(([, text]) => text);
-  const run = script.replaceAll("'tz-proved'", JSON.stringify(new URL('../index.js', HERE).href));
-  const printed = execFileSync(process.execPath, ['--input-type=module', '--eval', run], { encoding: 'utf8' });
-  assert.deepEqual(printed.trimEnd().split('\n'), said);
+  for (const [, script] of readme.matchAll(/```js\n(import .*?)```/gs)) {
+    const said = [...script.matchAll(/\/\/ (.*)$/gm)].map(([, text]) => text);
+    const run = script.replaceAll("'tz-proved'", JSON.stringify(new URL('../index.js', HERE).href));
+    const printed = execFileSync(process.execPath, ['--input-type=module', '--eval', run], { encoding: 'utf8' });
+    assert.deepEqual(printed.trimEnd().split('\n'), said);
+  }
 });
