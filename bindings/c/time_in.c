@@ -7,7 +7,7 @@ int main(int argc, char **argv) {
   tz_zone zone;
   void *memory = NULL;
   tz_date_time now;
-  char text[128];
+  char text[128] = {0};
   size_t length = 0;
   if (argc != 2) return fprintf(stderr, "usage: time_in NAME\n"), 2;
   tz_code code = (argv[1][0] == '/' ? tz_zone_open_file : tz_zone_open)(argv[1], &zone, &memory);
