@@ -540,7 +540,8 @@ tz_code tz_date_time_read(const char *text, size_t text_length, tz_parsed *out);
 /* A pattern is a text in UTF-8 whose conversions print a part of a date time, and whose other bytes stand for themselves. Names are English, as those of
    strftime in the locale "C".
 
-   %Y %y        the year, of four digits at least and with `-` before one below 0, and its last two digits, which grow in years below 0 too
+   %Y %y        the year, of four digits at least and with `-` before one below 0, and its last two digits, which grow in years below 0 too:
+                98 in the year -2, 99 in -1, 00 in 0
    %m %B %b %h  the month, 01 to 12, its name, and the first three letters of that
    %d %e %j     the day of the month, 01 to 31, and with a space in the place of a first zero; the day of the year, 001 to 366
    %H %k        the hour, 00 to 23, and with a space in the place of a first zero
