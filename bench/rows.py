@@ -130,7 +130,9 @@ BUILDS = {
     'Rust-default': 'the same by cargo\'s default release profile, as most programs are built',
     'tz-rs': 'by {rustc} with `lto`',
     **dict.fromkeys(('glibc', 'cctz', 'date'), f'Debian\'s library, {DRIVEN}'),
+    'tz-rs-default': 'by {rustc}, by cargo\'s default release profile',
     'chrono-tz': 'by {rustc} with `lto` and one codegen unit',
+    'chrono-tz-default': 'by {rustc}, by cargo\'s default release profile',
     'Go': 'by its own compiler',
     'jiff': 'the port in the kit, by {kit} for x86-64-v2',
 }
