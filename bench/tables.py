@@ -28,6 +28,7 @@ WIDTH, LEFT, BAR, HEAD, LONGEST = 900, 330, 11, 46, 4000
 COMPILERS = ('kit', 'rustc', 'g++')
 WORDS = ('none', 'one', 'two', 'three', 'four', 'five', 'six', 'seven', 'eight', 'nine', 'ten')
 STAR = r'\*'
+PLACE = 'place of a column of '
 COLOURS = ('#2563a8', '#c2c8d0', '#e0913a')
 
 
@@ -114,6 +115,17 @@ def of_own(kept):
         ['row', 'tz', *names],
         [[name, *(row.get(program, '–') for program in ('tz', *THROUGH))] for name, row in found],
     )
+
+
+def of_columns(kept):
+    """Instructions for an element of a column, through Rust and by the C library that cargo builds."""
+    programs = ('through-Rust', 'Rust-default', 'C-cargo')
+    lines = [
+        [name.removeprefix(PLACE), *(row.get(program, '–') for program in programs)]
+        for name, row in kept.rows('calls').items()
+        if name.startswith(PLACE)
+    ]
+    return table(['a column of', *(name.replace('-', ' ') for name in programs)], lines)
 
 
 def above_goals(kept):
@@ -380,6 +392,7 @@ def write(words=()):
         'builds': of_builds(kept),
         'lines': of_instructions('lines', kept, (), PEERS[:-1], reasons),
         'calls': of_instructions('calls', kept, THROUGH, PEERS, reasons),
+        'columns': of_columns(kept),
         'own': of_own(kept),
         'times': of_times(kept, reasons),
         'scaling': of_scaling(kept),
