@@ -99,7 +99,8 @@ REASONS = {
     'b': 'allocates a list, where `find_n` uses slots of the caller, and the peers return one or two values;',
     'c': 'looks for a file of that name in three directories, by a call of the kit that clears 4096 bytes each time;',
     'd': 'makes tables for its lookups, and checks over all years that start and end keep their order, which jiff does not;',
-    'e': 'checks that the transitions of a file rise, which glibc does not.',
+    'e': 'checks that the transitions of a file rise, which glibc does not;',
+    'f': 'checks the fields, which date does not.',
 }
 BEHIND = {
     '`DateTime::find`, fixed offset': 'ab',
@@ -109,6 +110,7 @@ BEHIND = {
     '`DateTime::find`, random, 100000 transitions': 'b',
     '`DateTime::find`, weekly, Paris': 'b',
     '`DateTime::find_n`, fixed offset': 'a',
+    '`UtcDateTime::new` and `unix_time`': 'f',
     '`TimeZone::from_posix_tz`, TZ string': 'c',
     '`TimeZoneSettings` without directories, TZ string': 'd',
     '`AlternateTime::new`, TZ string': 'd',
