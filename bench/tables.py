@@ -23,7 +23,10 @@ PAGE = TOP / 'docs' / 'BENCHMARKS.md'
 COLUMNS = 100
 THROUGH = ('through-C', 'C-cargo', 'through-Rust', 'Rust-default')
 OWN = ('tz', 'through-Rust', 'Rust-default')
+TIMED = (*OWN, 'C-cargo')
 PEERS = ('tz-rs', 'glibc', 'cctz', 'date', 'chrono-tz', 'Go', 'jiff')
+# The libraries of Rust that are timed by cargo's default profile, too.
+DEFAULT = ('tz', 'tz-rs-default', 'chrono-tz-default')
 WIDTH, LEFT, BAR, HEAD, LONGEST = 900, 330, 11, 46, 4000
 COMPILERS = ('kit', 'rustc', 'g++')
 WORDS = ('none', 'one', 'two', 'three', 'four', 'five', 'six', 'seven', 'eight', 'nine', 'ten')
@@ -153,13 +156,13 @@ def of_times(kept, reasons):
                 continue
             least = min(own)
             differing = kept.rows(f'differing {section}').get(name, {})
-            cells = [f'{row[program]:.1f}' if program in row else '–' for program in OWN]
+            cells = [f'{row[program]:.1f}' if program in row else '–' for program in TIMED]
             for peer in PEERS:
                 star = STAR * (peer in differing)
                 cells.append(f'{multiple(row[peer] / least)}{star}' if peer in row else '–')
             letters = reasons.letters_of(f'time of {name}', {**row, 'tz': least})
             lines.append([name, *cells, f'{least / best_of(row):.2f}{letters}'])
-    names = [f'{program.replace("-", " ")}, ns' for program in OWN]
+    names = [f'{program.replace("-", " ")}, ns' for program in TIMED]
     return table(['row', *names, *PEERS, 'tz / best'], lines)
 
 
@@ -180,20 +183,19 @@ ASKED = {
 }
 
 
-def of_asked(kept):
-    """Nanoseconds of the Rust crate and of the peers, in the rows that people ask for."""
-    found, columns = kept.rows('times of calls'), ('through-Rust', *PEERS)
-    lines = [
+def of_asked(kept, programs):
+    """Nanoseconds of these programs in the rows that people ask for."""
+    found = kept.rows('times of calls')
+    return [
         [
             asked,
             *(
                 f'{found[name][program]:.0f}' if program in found[name] else '–'
-                for program in columns
+                for program in programs
             ),
         ]
         for asked, name in ASKED.items()
     ]
-    return table(['ns', 'tz', *PEERS], lines)
 
 
 def days_of(names, kept):
@@ -245,18 +247,21 @@ def of_zones(versions):
     return f'Zones come from {", ".join(few)}, and from tzdata {most} for the others; chrono-tz has its own.'
 
 
+def spoken(days):
+    """These three days, once if they are the same."""
+    return days[0] if len(set(days)) == 1 else '{}, {} and {}'.format(*days)
+
+
 def of_versions(kept):
     """What was measured, and when."""
     version = {
         name: row['version'] for name, row in kept.rows('versions').items() if name != 'tzdata'
     }
     zones = of_zones(kept.rows('versions')['tzdata'])
-    days = days_of(['tz'], kept) + days_of(PEERS, kept)
-    shown = 'Lines, calls and times of tz were measured on {}, {} and {}, of the others on {}, {} and {}.'.format(
-        *days
-    )
-    if len(set(days)) == 1:
-        shown = f'All was measured on {days[0]}.'
+    own, others = days_of(['tz'], kept), days_of(PEERS, kept)
+    shown = f'Lines, calls and times of tz were measured on {spoken(own)}, of the others on {spoken(others)}.'
+    if len({*own, *others}) == 1:
+        shown = f'All was measured on {own[0]}.'
     text = (
         f'The peers are tz-rs {version["tz-rs"]}; from Debian {version["Debian"]} glibc {version["glibc"]}, '
         f'cctz {version["cctz"]}, Hinnant\'s date {version["date"]}, chrono-tz {version["chrono-tz"]} and Go {version["Go"]}; and the Rattle '
@@ -386,7 +391,13 @@ def write(words=()):
     kept = figures.Figures(TOP / 'bench' / 'figures.json')
     reasons = Reasons()
     made = {
-        'asked': of_asked(kept),
+        'asked': table(
+            ['ns', 'tz', 'tz in C', *PEERS], of_asked(kept, ('through-Rust', 'C-cargo', *PEERS))
+        ),
+        'asked by default': table(
+            ['ns', *(name.removesuffix('-default') for name in DEFAULT)],
+            of_asked(kept, ('Rust-default', *DEFAULT[1:])),
+        ),
         'short': of_calls(kept),
         'versions': of_versions(kept),
         'builds': of_builds(kept),
