@@ -44,8 +44,9 @@ test('beside Intl', (context) => {
   }
   assert.ok(count > 10_000);
   context.diagnostic(`${count} instants; zones of ${databaseVersion()}, of Intl ${process.versions.tz}`);
-  // Another version has other zones.
-  if (['2025b', '2025c'].includes(process.versions.tz)) assert.deepEqual(differing, []);
+  // Another version has other zones: `KNOWN` has what two of them differ by.
+  const alike = databaseVersion() === '2025b' ? ['2025b', '2025c'] : [databaseVersion()];
+  if (alike.includes(process.versions.tz)) assert.deepEqual(differing, []);
   else context.diagnostic(`differing: ${differing.join('; ') || 'none'}`);
   if (missing.length > 0) context.diagnostic(`Intl has none of ${missing.join(' ')}`);
 });

@@ -10,6 +10,7 @@ import { extname, join } from 'node:path';
 import test from 'node:test';
 import { fileURLToPath, pathToFileURL } from 'node:url';
 import { promisify } from 'node:util';
+import { databaseVersion } from '../index.js';
 import { KNOWN, TZQ, tzq } from './shared.js';
 
 const CHROMIUM = process.env.CHROMIUM ?? 'chromium';
@@ -108,8 +109,8 @@ document.getElementById('result').textContent = JSON.stringify(said);
   assert.equal(thrown, undefined);
   assert.ok(count > 20_000);
   context.diagnostic(`${count} comparisons in ${version.trim()}`);
-  // Another browser may have another version of the database, with other zones.
-  if (/ 156\./.test(version)) assert.deepEqual(wrong, []);
+  // Another browser may have another version of the database, with other zones, and so may the module.
+  if (databaseVersion() === '2025b' && / 156\./.test(version)) assert.deepEqual(wrong, []);
   else context.diagnostic(`differing: ${wrong.join('; ') || 'none'}`);
 });
 
