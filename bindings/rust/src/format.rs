@@ -141,7 +141,7 @@ impl DateTime {
 }
 
 impl UtcDateTime {
-    /// The date time as a pattern prints it, by `Display`. It takes a [`Pattern`], and a [`UtcPattern`], which other date times have not.
+    /// The date time as a pattern prints it, by `Display`. It takes a [`Pattern`], and a [`UtcPattern`], which [`DateTime::format`] does not.
     ///
     /// ```
     /// use tz::UtcDateTime;
