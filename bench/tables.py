@@ -248,8 +248,9 @@ def of_zones(versions):
 
 
 def spoken(days):
-    """These three days, once if they are the same."""
-    return days[0] if len(set(days)) == 1 else '{}, {} and {}'.format(*days)
+    """The days of lines, calls and times, once if they are the same."""
+    parts = 'lines on {}, calls on {} and times on {}'
+    return f'all on {days[0]}' if len(set(days)) == 1 else parts.format(*days)
 
 
 def of_versions(kept):
@@ -259,7 +260,7 @@ def of_versions(kept):
     }
     zones = of_zones(kept.rows('versions')['tzdata'])
     own, others = days_of(['tz'], kept), days_of(PEERS, kept)
-    shown = f'Lines, calls and times of tz were measured on {spoken(own)}, of the others on {spoken(others)}.'
+    shown = f'Measured were, of tz, {spoken(own)}, and of the others {spoken(others)}.'
     if len({*own, *others}) == 1:
         shown = f'All was measured on {own[0]}.'
     text = (
