@@ -167,6 +167,8 @@ enum {
 
 /* ---- Types ---------------------------------------------------------------------------------------------------------------------------- */
 
+/* Sizes of structs are those on 64 bits. On 32 bits some are smaller. */
+
 /* A local time type: an offset that is added to UTC, a daylight flag, a name. 16 bytes. */
 typedef struct tz_local_time_type {
   int32_t ut_offset;          /* seconds; never INT32_MIN */
